@@ -1,0 +1,5 @@
+pub mod Blanked
+pub mod Listing
+pub mod Misread
+pub mod Quoted
+pub mod RoundTrip

@@ -1,0 +1,4 @@
+pub mod Corrects
+pub mod Replies
+pub mod Runs
+pub mod Whole

@@ -1,0 +1,2 @@
+pub mod GapText
+pub mod Gaps

@@ -1,0 +1,5 @@
+mod Copying
+mod Inside
+mod Spelled
+mod Spliced
+mod Tables

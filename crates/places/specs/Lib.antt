@@ -1,0 +1,12 @@
+pub mod Calls
+pub mod Carry
+pub mod Checks
+pub mod DryRun
+pub mod Edits
+pub mod Laws
+pub mod Markers
+pub mod Model
+pub mod Near
+pub mod Refusals
+pub mod Shown
+pub mod Spans

@@ -47,9 +47,9 @@ pub fn correct<S: TextStore>(
     start: &[u8],
     calls: &[Call],
 ) -> Result<Corrected, Trouble>
-    ensures corrected { IfOk result (λ v. Corrects (text store.old) (room store.old) start.now calls.now v (text store.new)) }
-    ensures trouble { IfErr result (λ e. Troubled e (text store.old) (room store.old) start.now calls.now (text store.new)) }
-    ensures room { room store.new ≡ room store.old }
+    ensures corrected { IfOk result (λ v. Corrects (S.text store.old) (S.room store.old) start.now calls.now v (S.text store.new)) }
+    ensures trouble { IfErr result (λ e. Troubled e (S.text store.old) (S.room store.old) start.now calls.now (S.text store.new)) }
+    ensures room { S.room store.new ≡ S.room store.old }
 {
     append(store, start)?;
     let answers = perform_all(heap, store, calls)?;

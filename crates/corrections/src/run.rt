@@ -16,9 +16,9 @@ pub(crate) fn perform_all<S: TextStore>(
     store: &mut S,
     calls: &[Call],
 ) -> Result<Vec<Answer>, AllocError>
-    ensures done { IfOk result (λ answers. Answered (text store.old) (room store.old) calls.now answers (text store.new)) }
-    ensures stopped { OnErr result (Stopped (text store.old) (room store.old) calls.now (text store.new)) }
-    ensures room { room store.new ≡ room store.old }
+    ensures done { IfOk result (λ answers. Answered (S.text store.old) (S.room store.old) calls.now answers (S.text store.new)) }
+    ensures stopped { OnErr result (Stopped (S.text store.old) (S.room store.old) calls.now (S.text store.new)) }
+    ensures room { S.room store.new ≡ S.room store.old }
 {
     let mut answers = Vec::with_capacity(heap, calls.len())?;
     for call in calls {
@@ -30,9 +30,9 @@ pub(crate) fn perform_all<S: TextStore>(
 
 // Does one call. Only a copy can want memory, and it changes nothing.
 fn perform<S: TextStore>(heap: Global, store: &mut S, call: &Call) -> Result<Answer, AllocError>
-    ensures reply { IfOk result (λ a. reply_of a ≡ call_reply (text store.old) (room store.old) call.now) }
-    ensures text { text store.new ≡ call_text (text store.old) (room store.old) call.now }
-    ensures room { room store.new ≡ room store.old }
+    ensures reply { IfOk result (λ a. reply_of a ≡ call_reply (S.text store.old) (S.room store.old) call.now) }
+    ensures text { S.text store.new ≡ call_text (S.text store.old) (S.room store.old) call.now }
+    ensures room { S.room store.new ≡ S.room store.old }
 {
     match call {
         Call::Insert { place, bytes } => Ok(edit_answer(store.insert(*place, bytes))),
@@ -56,7 +56,7 @@ fn edit_answer(res: Result<(), Fault>) -> Answer
 // Copies n bytes from p on. No accepted copy has more than 32,768 bytes, so an area of that many
 // is never too short.
 fn copy_out<S: TextStore>(heap: Global, store: &S, p: usize, n: usize) -> Result<Answer, AllocError>
-    ensures { IfOk result (λ a. reply_of a ≡ copy_reply (text store.now) p n) }
+    ensures { IfOk result (λ a. reply_of a ≡ copy_reply (S.text store.now) p n) }
 {
     let mut area = vec![in heap; 0; n.min(MAX_CAPACITY)]?;
     match store.copy(p, n, &mut area) {

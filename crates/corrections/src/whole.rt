@@ -10,9 +10,9 @@ use store::text_store::TextStore;
 
 // Puts bytes of any number behind the text. Where they do not all fit, none is put in.
 pub(crate) fn append<S: TextStore>(store: &mut S, bytes: &[u8]) -> Result<(), Fault>
-    ensures value { result ≡ answer (append_check (length (text store.old)) (room store.old) (length bytes.now)) (length (text store.old)) }
-    ensures text { text store.new ≡ unless (append_check (length (text store.old)) (room store.old) (length bytes.now)) (text store.old ++ bytes.now) (text store.old) }
-    ensures room { room store.new ≡ room store.old }
+    ensures value { result ≡ answer (append_check (length (S.text store.old)) (S.room store.old) (length bytes.now)) (length (S.text store.old)) }
+    ensures text { S.text store.new ≡ unless (append_check (length (S.text store.old)) (S.room store.old) (length bytes.now)) (S.text store.old ++ bytes.now) (S.text store.old) }
+    ensures room { S.room store.new ≡ S.room store.old }
 {
     let len = store.len();
     let room = store.capacity();
@@ -25,9 +25,9 @@ pub(crate) fn append<S: TextStore>(store: &mut S, bytes: &[u8]) -> Result<(), Fa
 
 // An insertion has at most 4,096 bytes.
 fn append_in_parts<S: TextStore>(store: &mut S, bytes: &[u8])
-    requires { length (text store.old) + length bytes.now ≤ room store.old }
-    ensures text { text store.new ≡ text store.old ++ bytes.now }
-    ensures room { room store.new ≡ room store.old }
+    requires { length (S.text store.old) + length bytes.now ≤ S.room store.old }
+    ensures text { S.text store.new ≡ S.text store.old ++ bytes.now }
+    ensures room { S.room store.new ≡ S.room store.old }
 {
     let len = store.len();
     let mut done = 0;
@@ -40,15 +40,15 @@ fn append_in_parts<S: TextStore>(store: &mut S, bytes: &[u8])
 
 // The whole text. Only memory can be wanting.
 pub(crate) fn contents<S: TextStore>(heap: Global, store: &S) -> Result<Vec<u8>, AllocError>
-    ensures { IfOk result (λ v. v.items ≡ text store.now) }
+    ensures { IfOk result (λ v. v.items ≡ S.text store.now) }
 {
     first_bytes(heap, store, store.len())
 }
 
 fn first_bytes<S: TextStore>(heap: Global, store: &S, n: usize) -> Result<Vec<u8>, AllocError>
-    requires { n ≤ length (text store.now) }
-    ensures front { IfOk result (λ v. v.items ≡ take n (text store.now)) }
-    ensures whole { n ≡ length (text store.now) → IfOk result (λ v. v.items ≡ text store.now) }
+    requires { n ≤ length (S.text store.now) }
+    ensures front { IfOk result (λ v. v.items ≡ take n (S.text store.now)) }
+    ensures whole { n ≡ length (S.text store.now) → IfOk result (λ v. v.items ≡ S.text store.now) }
 {
     let mut area = vec![in heap; 0; n]?;
     let _ = store.copy(0, n, &mut area);

@@ -8,4 +8,4 @@ returns-in-Ok g c =
     let within = g.met.S.TextStore.within c.args.store.now in
     let limit = g.met.S.TextStore.limit c.args.store.now in
     let short : length (g.S.TextStore.text c.args.store.now) ≤ 32768 = omega arith in
-    copied-reply t c.in-ok-area.area.items c.copy.new.area c.args.p c.args.n c.in-ok-area.area.len short (search rules) (search rules) (search rules)
+    copied-reply t c.in_ok-area.area.items c.copy.new.area c.args.p c.args.n c.in_ok-area.area.len short (search rules) (search rules) (search rules)

@@ -9,7 +9,7 @@ loop-i-init c = search (rules, unquoted-start)
 
 pub returns-in-err-push : goal.returns-in-err-push
 returns-in-err-push c =
-    let p = err_from_is_err_and c.from-residual.result c.from-residual.ensures.1 in
+    let p = err_from_is_err_and c.from_residual.result c.from_residual.ensures.1 in
     rw (p.1, p.2) (record { read = tt; within = tt; unread = tt })
 
 pub returns-in-Closes : goal.returns-in-Closes
@@ -30,7 +30,7 @@ returns-in-Fails c =
 
 pub loop-i-preserved : goal.loop-i-preserved
 loop-i-preserved c =
-    elim c.match-take-turn.branch [
+    elim c.match-take_turn.branch [
       | in-Goes w ↦ (let m = unquoted_goes c.args.rest.now (vec_items c.loop-i.bytes) c.loop-i.state c.loop-i.i c.loop-i-test.true c.loop-i.invariant w.in-Goes.next w.in-Goes.ensures in
           rw (w.bytes-is, w.state-is) m)
       | in-Gives+in-ok-push w ↦ (let m = unquoted_gives c.args.rest.now (vec_items c.loop-i.bytes) c.loop-i.state c.loop-i.i c.loop-i-test.true c.loop-i.invariant w.in-Gives.byte w.in-Gives.ensures in

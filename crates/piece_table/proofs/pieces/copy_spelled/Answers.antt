@@ -6,14 +6,14 @@ use Rattle.piece_table.proofs.Copying.{copy_step, place_after, place-past, all_c
 use Rattle.piece_table.proofs.pieces.copy_spelled.Goals as goal
 use Rattle.piece_table.proofs.pieces.copy_spelled.Goals.{then-skip-q, else-skip-q}
 
-pub overflow-add-from : goal.overflow-add-from
-overflow-add-from c = let q-in = inside_at (length c.args.memory.now) c.args.pieces.now c.loop-q.q-index c.requires.inside (omega arith) in search rules
+pub overflow_add-from : goal.overflow_add-from
+overflow_add-from c = let q-in = inside_at (length c.args.memory.now) c.args.pieces.now c.loop-q.q-index c.requires.inside (omega arith) in search rules
 
-pub overflow-add-end : goal.overflow-add-end
-overflow-add-end c = let q-in = inside_at (length c.args.memory.now) c.args.pieces.now c.loop-q.q-index c.requires.inside (omega arith) in search rules
+pub overflow_add-end : goal.overflow_add-end
+overflow_add-end c = let q-in = inside_at (length c.args.memory.now) c.args.pieces.now c.loop-q.q-index c.requires.inside (omega arith) in search rules
 
-pub slice-bounds-overwrite-end : goal.slice-bounds-overwrite-end
-slice-bounds-overwrite-end c = let q-in = inside_at (length c.args.memory.now) c.args.pieces.now c.loop-q.q-index c.requires.inside (omega arith) in search rules
+pub slice_bounds-overwrite-end : goal.slice_bounds-overwrite-end
+slice_bounds-overwrite-end c = let q-in = inside_at (length c.args.memory.now) c.args.pieces.now c.loop-q.q-index c.requires.inside (omega arith) in search rules
 
 pub loop-q-preserved : goal.loop-q-preserved
 loop-q-preserved c =

@@ -8,8 +8,8 @@ walk-spot-requires c = let n = length-spelled c.args.memory.now c.args.pieces.no
 pub bounds-pieces-spot : goal.bounds-pieces-spot
 bounds-pieces-spot c = walked_in c.args.memory.now c.args.pieces.now c.requires.inside c.args.p c.walk-spot.result c.walk-spot.ensures c.requires.within
 
-pub overflow-add-at : goal.overflow-add-at
-overflow-add-at c = let low = walked_low c.args.memory.now c.args.pieces.now c.requires.inside c.args.p c.walk-spot.result c.walk-spot.ensures c.requires.within in search rules
+pub overflow_add-at : goal.overflow_add-at
+overflow_add-at c = let low = walked_low c.args.memory.now c.args.pieces.now c.requires.inside c.args.p c.walk-spot.result c.walk-spot.ensures c.requires.within in search rules
 
 pub bounds-memory-at : goal.bounds-memory-at
 bounds-memory-at c = let low = walked_low c.args.memory.now c.args.pieces.now c.requires.inside c.args.p c.walk-spot.result c.walk-spot.ensures c.requires.within in search rules

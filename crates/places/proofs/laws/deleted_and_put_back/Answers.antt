@@ -16,8 +16,8 @@ returns c =
     let notes = c.note-notes.result in
     let count = c.note-notes.ensures.count in
     let distances = c.note-notes.ensures.distances in
-    let is : model c.put-back.result ≡ deletion_inverted p n (markers_noted p n r.markers) (after (Deletion p n) (model r)) =
-    c.put-back.ensures ∙ ap (λ k. deletion_inverted p k notes.distances (model c.after.result)) count ∙ ap (λ ds. deletion_inverted p n ds (model c.after.result)) distances ∙ ap (deletion_inverted p n (markers_noted p n r.markers)) before in
+    let is : model c.put_back.result ≡ deletion_inverted p n (markers_noted p n r.markers) (after (Deletion p n) (model r)) =
+    c.put_back.ensures ∙ ap (λ k. deletion_inverted p k notes.distances (model c.after.result)) count ∙ ap (λ ds. deletion_inverted p n ds (model c.after.result)) distances ∙ ap (deletion_inverted p n (markers_noted p n r.markers)) before in
     record {
       value = is;
       law = λ h. is ∙ deleted_and_put_back p n (model r) (omega arith) (omega arith) (all_sound r.len r.spans r.count (omega arith) r.few r.spanned) h;

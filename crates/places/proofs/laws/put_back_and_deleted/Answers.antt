@@ -10,7 +10,7 @@ returns c =
     let r = c.args.places in
     let p = c.args.p in
     let notes = c.args.notes in
-    let is : model c.after.result ≡ after (Deletion p notes.count) (deletion_inverted p notes.count notes.distances (model r)) = c.after.ensures ∙ ap (after (Deletion p notes.count)) c.put-back.ensures in
+    let is : model c.after.result ≡ after (Deletion p notes.count) (deletion_inverted p notes.count notes.distances (model r)) = c.after.ensures ∙ ap (after (Deletion p notes.count)) c.put_back.ensures in
     record {
       value = is;
       law = λ o h. is ∙ put_back_and_deleted o p notes.count notes.distances (model r) (omega arith) r.window notes.near h;

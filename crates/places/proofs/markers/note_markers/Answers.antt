@@ -6,7 +6,7 @@ use Rattle.places.proofs.markers.note_markers.Goals as goal
 pub loop-i-preserved : goal.loop-i-preserved
 loop-i-preserved c = (
   simp length-set c.loop-i.invariant.0,
-  filled_more (λ i. noted c.args.p c.args.n (get_or c.args.markers i 0)) None c.loop-i.out c.loop-i.i _ c.loop-i.invariant.0 (omega arith) c.note-one.ensures c.loop-i.invariant.1,
+  filled_more (λ i. noted c.args.p c.args.n (get_or c.args.markers i 0)) None c.loop-i.out c.loop-i.i _ c.loop-i.invariant.0 (omega arith) c.note_one.ensures c.loop-i.invariant.1,
 )
 
 pub returns : goal.returns

@@ -8,8 +8,8 @@ replace-requires c =
     let l = low_inside c.args.self.now in
     search rules
 
-pub invariant-of-self : goal.invariant-of-self
-invariant-of-self c =
+pub invariant_of-self : goal.invariant_of-self
+invariant_of-self c =
     let t = cut_text c.args.self.now _ c.args.p c.args.n c.requires.place c.replace.ensures.edited in
     search rules
 

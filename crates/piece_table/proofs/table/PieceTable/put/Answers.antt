@@ -11,8 +11,8 @@ replace-requires c =
     let l = low_inside c.args.self.now in
     search rules
 
-pub invariant-of-self : goal.invariant-of-self
-invariant-of-self c =
+pub invariant_of-self : goal.invariant_of-self
+invariant_of-self c =
     let live : vec_items (with_items c.args.self.now.live c.overwrite.new.memory) ≡ paste (vec_items c.args.self.now.live) c.args.self.now.used c.args.bytes.now (length c.args.bytes.now) = search (rules, with_items_is) in
     let t = put_text c.args.self.now _ c.args.p _ c.args.bytes.now c.requires.free c.requires.place live c.replace.ensures.edited in
     search rules

@@ -6,7 +6,7 @@ use Rattle.piece_table.proofs.table.PieceTable.turn_over.Goals as goal
 pub returns : goal.returns
 returns c =
     let t = c.args.self.now in
-    let one : vec_items c.push-reserved.new.self ≡ record { start = 0; len = t.size } ∷ [] = search rules in
+    let one : vec_items c.push_reserved.new.self ≡ record { start = 0; len = t.size } ∷ [] = search rules in
     let front : take t.size (vec_items c.swap.new.x) ≡ take t.size (table_text t) = search rules in
-    let text = rewritten (table_text t) (vec_items c.swap.new.x) (vec_items c.push-reserved.new.self) t.size t.long one front in
+    let text = rewritten (table_text t) (vec_items c.swap.new.x) (vec_items c.push_reserved.new.self) t.size t.long one front in
     record { text = text; room = search rules; used = search rules; few = search rules }

@@ -18,11 +18,11 @@ escaped_push (a ∷ bs) b = ap (λ x. escape a ++ x) (escaped_push bs b) ∙ sym
 pub quoted_more : (bs t u : List ℕ) (i : ℕ) → i < length bs → t ≡ codes "\"" ++ escaped (take i bs) → u ≡ t ++ escape (get_or bs i 0) → u ≡ codes "\"" ++ escaped (take (i + 1) bs)
 quoted_more bs t u i lt so_far is =
     is ∙ ap (λ x. x ++ escape (get_or bs i 0)) so_far
-    ∙ ap (λ x. codes "\"" ++ x) (sym (escaped-push (take i bs) (get_or bs i 0)) ∙ ap escaped (sym (take_more bs i 0 lt)))
+    ∙ ap (λ x. codes "\"" ++ x) (sym (escaped_push (take i bs) (get_or bs i 0)) ∙ ap escaped (sym (take_more bs i 0 lt)))
 
-pub quoted-whole : (bs t u : List ℕ) (i : ℕ) → length bs ≤ i → t ≡ codes "\"" ++ escaped (take i bs) → u ≡ t ++ codes "\"" → u ≡ quoted bs
+pub quoted_whole : (bs t u : List ℕ) (i : ℕ) → length bs ≤ i → t ≡ codes "\"" ++ escaped (take i bs) → u ≡ t ++ codes "\"" → u ≡ quoted bs
 unfolding quoted
-quoted-whole bs t u i all so_far is = is ∙ ap (λ x. x ++ codes "\"") so_far ∙ ap (λ x. codes "\"" ++ (escaped x ++ codes "\"")) (take_all i bs all)
+quoted_whole bs t u i all so_far is = is ∙ ap (λ x. x ++ codes "\"") so_far ∙ ap (λ x. codes "\"" ++ (escaped x ++ codes "\"")) (take_all i bs all)
 
 pub three_pushed : (s t u v x : List ℕ) (h l : ℕ) → t ≡ s ++ x → u ≡ t ++ (h ∷ []) → v ≡ u ++ (l ∷ []) → v ≡ s ++ (x ++ (h ∷ l ∷ []))
 three_pushed s t u v x h l a b c =

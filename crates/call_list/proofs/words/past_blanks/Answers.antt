@@ -5,8 +5,8 @@ use Rattle.call_list.proofs.words.past_blanks.Goals as goal
 pub loop-i-preserved : goal.loop-i-preserved
 loop-i-preserved c = search (rules, blank_more)
 
-pub returns-then-not-is-blank : goal.returns-then-not-is-blank
-returns-then-not-is-blank c = search (rules, blank_stop)
+pub returns-then-not-is_blank : goal.returns-then-not-is_blank
+returns-then-not-is_blank c = search (rules, blank_stop)
 
 pub returns : goal.returns
 returns c = search (rules, blank_all)

@@ -4,8 +4,8 @@ use Rattle.undo_list.specs.Spell.{lowered}
 use Rattle.undo_list.proofs.Dropped.{unchanged, changed_all, read_at}
 use Rattle.undo_list.proofs.fronts.lower.Goals as goal
 
-pub overflow-sub-numbers : goal.overflow-sub-numbers
-overflow-sub-numbers c =
+pub overflow_sub-numbers : goal.overflow_sub-numbers
+overflow_sub-numbers c =
     let lt : c.loop-i.i < length c.args.numbers.now = omega arith in
     let u = unchanged (lowered c.args.gone) c.args.numbers.now c.loop-i.numbers c.loop-i.i 0 lt c.loop-i.invariant in
     omega (arith, c.requires c.loop-i.i 0 lt, u)

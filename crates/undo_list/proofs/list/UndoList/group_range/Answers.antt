@@ -9,10 +9,10 @@ returns-then-group-closed c =
 
 pub returns-then-group-closed-2 : goal.returns-then-group-closed-2
 returns-then-group-closed-2 c =
-    let r = open_group c.args.self.now c.args.group _ _ (search rules) c.start-of-start.ensures (search rules) in
+    let r = open_group c.args.self.now c.args.group _ _ (search rules) c.start_of-start.ensures (search rules) in
     record { forward = r.forward; within = r.within; past = r.past; found = r.found; len = r.len }
 
 pub returns : goal.returns
 returns c =
-    let r = closed_group c.args.self.now c.args.group _ _ c.index.result.now (search rules) c.start-of-start.ensures (search rules) refl in
+    let r = closed_group c.args.self.now c.args.group _ _ c.index.result.now (search rules) c.start_of-start.ensures (search rules) refl in
     record { forward = r.forward; within = r.within; past = r.past; found = r.found; len = r.len }

@@ -49,7 +49,8 @@ fn edits_of_six_bytes(rt: HostRuntime) -> Result<(), Fail> {
             refusal(guarded.check_all(Check::Spans(Origin::Undo), &[edit])),
             met
         );
-        assert_eq!(rt; guarded.after(edit).spans[0], Span { start, end });
+        let span = guarded.after(edit).spans[0];
+        assert_eq!(rt; span, Span { start, end });
     }
     Ok(())
 }
@@ -89,7 +90,8 @@ fn markers_around_edits(rt: HostRuntime) -> Result<(), Fail> {
 fn refused_calls(rt: HostRuntime) -> Result<(), Fail> {
     let three = Places::new(8).protect(1, 3)?.protect(2, 5)?.protect(5, 6)?;
     assert_eq!(rt; three.unprotect(1, 5)?.count, 1);
-    assert_eq!(rt; three.unprotect(1, 5)?.spans[0], Span { start: 5, end: 6 });
+    let span = three.unprotect(1, 5)?.spans[0];
+    assert_eq!(rt; span, Span { start: 5, end: 6 });
     let five = three.protect(0, 1)?.protect(0, 1)?;
     let eight = five.protect(0, 1)?.protect(0, 1)?.protect(0, 1)?;
     let table = [

@@ -14,6 +14,7 @@ use Rattle.places.specs.Markers.{markers_noted}
 use Rattle.places.specs.Model.{model}
 use Rattle.undo_list.specs.Groups.{PutIn, Took, recorded}
 use Rattle.undo_list.specs.View as list
+use Rattle.store.specs.declared.text_store.TextStore.{Ghosts}
 use Rattle.session.specs.declared.session.Session.{Session}
 use Rattle.session.specs.Admitted.{Removable, Returnable}
 use Rattle.session.specs.Passes.{Insertable}
@@ -75,7 +76,7 @@ pub fitted_long : (n : ℕ) (m : Model) → (fitted n m).len ≡ n
 unfolding fitted
 fitted_long n m = grind (arith, nat_tests)
 
-module _ {S : Type 0} (text : S → List ℕ) (room : S → ℕ) (s t : Session S) (f : Places) where
+module _ {S : Type 0} {B : Ghosts S} (text : S → List ℕ) (room : S → ℕ) (s t : Session S B) (f : Places) where
   -- s is the session before the insertion, f its record, and t the session after it.
   pub insertion_done : (p : ℕ) (bs : List ℕ)
       → model f ≡ (view text room s).places
@@ -132,7 +133,7 @@ module _ {S : Type 0} (text : S → List ℕ) (room : S → ℕ) (s t : Session 
       let done = seen text room t new-text r new-places new-list new-long in
       cc
 
-module _ {S : Type 0} (text : S → List ℕ) (room : S → ℕ) (s : Session S) where
+module _ {S : Type 0} {B : Ghosts S} (text : S → List ℕ) (room : S → ℕ) (s : Session S B) where
   -- The bytes that are to go, in the front of an area.
   pub copied_out : (p n : ℕ) (area filled : List ℕ) → Removable (view text room s) p n → length area ≡ 4096 → filled ≡ store.after_copy (text s.store) p n area → take (n - 0) filled ≡ take n (drop p (text s.store))
   unfolding view
@@ -143,7 +144,7 @@ module _ {S : Type 0} (text : S → List ℕ) (room : S → ℕ) (s : Session S)
       let all : n - 0 ≡ n = omega arith in
       ap (λ k. take k filled) all ∙ ap (take n) (e ∙ ap (λ k. store.unless k (store.copied (text s.store) p n area) area) passes) ∙ copied_front (text s.store) area p n place
 
-module _ {S : Type 0} (text : S → List ℕ) (room : S → ℕ) (s t : Session S) (f : Places) where
+module _ {S : Type 0} {B : Ghosts S} (text : S → List ℕ) (room : S → ℕ) (s t : Session S B) (f : Places) where
   -- The kept bytes of a deletion, n of them, come back: s is the session before, f its record, and t the
   -- session after.
   pub return_done : (p n : ℕ) (bs : List ℕ) (notes : List (Option ℕ))

@@ -41,7 +41,7 @@ impl<S: TextStore> Session<S> {
 
     fn over(store: S, list: UndoList, made: Vec<usize>, edits: Vec<Edit>) -> Session<S>
         requires list { Empty (list-view list) }
-        requires stack { (IfOk.items ≡ []) × (256 ≤ vec_capacity IfOk) }
+        requires stack { (made.items ≡ []) × (256 ≤ vec_capacity made) }
         requires edits { 512 ≤ vec_capacity edits }
         ensures { view S.TextStore.text S.TextStore.room result ≡ new_world (S.TextStore.text store) (S.TextStore.room store) }
     {

@@ -6,7 +6,7 @@ use Rattle.turns.proofs.check.check_list.Goals as goal
 
 pub returns-in-Some : goal.returns-in-Some
 unfolding list_fault
-returns-in-Some c = listed (view c.args.list.now) c.args.edits.now c.in-Some.bytes c.check-group.result c.in-Some.ensures c.check-group.ensures.value
+returns-in-Some c = listed (view c.args.list.now) c.args.edits.now c.in-Some.bytes c.check_group.result c.in-Some.ensures c.check_group.ensures.value
 
 pub returns-in-None : goal.returns-in-None
 unfolding list_fault

@@ -6,15 +6,15 @@ use Rattle.turns.specs.Faults.{counts_check}
 use Rattle.turns.proofs.Turned.{count_refused, count_passed, all_done}
 use Rattle.turns.proofs.counts.check_counts.Goals as goal
 
-pub returns-in-err-check-count : goal.returns-in-err-check-count
-returns-in-err-check-count c =
-    let e = err_from_is_err_and c.from-residual.result c.from-residual.ensures.1 in
-    let said = c.in-err-check-count.ensures.value ∙ ap (λ n. answer (count_check n) 0) c.size.ensures in
+pub returns-in_err-check_count : goal.returns-in_err-check_count
+returns-in_err-check_count c =
+    let e = err_from_is_err_and c.from_residual.result c.from_residual.ensures.1 in
+    let said = c.in_err-check_count.ensures.value ∙ ap (λ n. answer (count_check n) 0) c.size.ensures in
     rw (e.1, e.2) (count_refused c.args.edits.now c.loop-edit.edit-index _ _ _ (omega arith) said c.loop-edit.invariant)
 
 pub loop-edit-preserved : goal.loop-edit-preserved
 loop-edit-preserved c =
-    let said = c.in-ok-check-count.ensures.value ∙ ap (λ n. answer (count_check n) 0) c.size.ensures in
+    let said = c.in_ok-check_count.ensures.value ∙ ap (λ n. answer (count_check n) 0) c.size.ensures in
     count_passed c.args.edits.now c.loop-edit.edit-index _ _ (omega arith) said c.loop-edit.invariant
 
 pub returns : goal.returns

@@ -3,9 +3,9 @@ use Rattle.session.specs.Calls.{boundary_check, boundary_world}
 use Rattle.session.specs.View.{view}
 use Rattle.session.proofs.session.Session.boundary.Goals as goal
 
-pub returns-in-err-next : goal.returns-in-err-next
+pub returns-in_err-next : goal.returns-in_err-next
 unfolding view boundary_check boundary_world
-returns-in-err-next g c = search rules
+returns-in_err-next g c = search rules
 
 pub returns : goal.returns
 unfolding view boundary_check boundary_world

@@ -6,21 +6,21 @@ use Rattle.session.specs.Passes.{Deletable}
 use Rattle.session.proofs.Passed.{removable}
 use Rattle.session.proofs.session.Session.delete.Goals as goal
 
-pub returns-in-err-admit-deletion : goal.returns-in-err-admit-deletion
+pub returns-in_err-admit_deletion : goal.returns-in_err-admit_deletion
 unfolding view delete_check delete_world
-returns-in-err-admit-deletion g c = search rules
+returns-in_err-admit_deletion g c = search rules
 
-pub returns-in-err-check-entry : goal.returns-in-err-check-entry
+pub returns-in_err-check_entry : goal.returns-in_err-check_entry
 unfolding view delete_check delete_world
-returns-in-err-check-entry g c = search rules
+returns-in_err-check_entry g c = search rules
 
-pub take-out-requires : goal.take-out-requires
+pub take_out-requires : goal.take_out-requires
 unfolding view
-take-out-requires g c =
-    let i = c.in-ok-admit-deletion.ensures.passed in
+take_out-requires g c =
+    let i = c.in_ok-admit_deletion.ensures.passed in
     let P : Model → Type 0 = λ m. Deletable m c.args.p c.args.n in
-    let j = subst P c.places-now-places.ensures.model i in
-    record { places = c.places-now-places.ensures.model; admitted = removable _ c.args.p c.args.n j c.in-ok-check-entry.ensures.passed.0 }
+    let j = subst P c.places_now-places.ensures.model i in
+    record { places = c.places_now-places.ensures.model; admitted = removable _ c.args.p c.args.n j c.in_ok-check_entry.ensures.passed.0 }
 
 pub returns : goal.returns
 unfolding view delete_check delete_world

@@ -3,17 +3,17 @@ use Rattle.session.specs.Calls.{insert_check, insert_world}
 use Rattle.session.specs.View.{view}
 use Rattle.session.proofs.session.Session.insert.Goals as goal
 
-pub returns-in-err-admit-insertion : goal.returns-in-err-admit-insertion
+pub returns-in_err-admit_insertion : goal.returns-in_err-admit_insertion
 unfolding view insert_check insert_world
-returns-in-err-admit-insertion g c = search rules
+returns-in_err-admit_insertion g c = search rules
 
-pub returns-in-err-check-entry : goal.returns-in-err-check-entry
+pub returns-in_err-check_entry : goal.returns-in_err-check_entry
 unfolding view insert_check insert_world
-returns-in-err-check-entry g c = search rules
+returns-in_err-check_entry g c = search rules
 
-pub put-in-requires : goal.put-in-requires
+pub put_in-requires : goal.put_in-requires
 unfolding view
-put-in-requires g c = search rules
+put_in-requires g c = search rules
 
 pub returns : goal.returns
 unfolding view insert_check insert_world

@@ -13,26 +13,28 @@ use Rattle.session.proofs.Views.{groups_seen}
 use Rattle.session.proofs.Inverted.{insertion_goes, insertion_gone, deletion_comes, deletion_back, deletion_counts, none_there}
 use Rattle.session.proofs.session.Session.invert_entry.Goals as goal
 
-pub returns-in-default : goal.returns-in-default
+pub returns-in_default : goal.returns-in_default
 unfolding view
-returns-in-default g c =
+returns-in_default g c =
     let hs = group_at (list.view c.args.self.now.list) c.args.group in
-    let said = ap (λ (e : Option Entry). read_as e c.read-reading.result.kept.now) (sym c.in-default.is) ∙ c.read-reading.ensures.value in
+    let said = ap (λ (e : Option Entry). read_as e c.read-reading.result.kept.now) (sym c.in_default.is) ∙ c.read-reading.ensures.value in
     absurd (none_there hs c.args.i c.read-reading.result.kept.now c.requires.there said)
 
-pub take-out-requires : goal.take-out-requires
+pub take_out-requires : goal.take_out-requires
 unfolding view
-take-out-requires g c =
+take_out-requires g c =
     let hs = group_at (list.view c.args.self.now.list) c.args.group in
     let said = ap (λ (e : Option Entry). read_as e c.read-reading.result.kept.now) (sym c.in-Some.is) ∙ c.read-reading.ensures.value in
     record {
-      places = c.places-now-places.ensures.model;
+      places = c.places_now-places.ensures.model;
       admitted = insertion_goes hs c.args.i c.in-Some.entry c.read-reading.result.kept.now c.requires.there said _ c.in-Insertion.is c.requires.admitted;
     }
 
-pub invariant-of-notes : goal.invariant-of-notes
-invariant-of-notes g c =
-    (λ k lt. let near-kind = c.in-Some.entry.near k lt in let P : Kind → Type 0 = λ x. near c.in-Some.entry.count (note x k) ≡ true in subst P c.in-Deletion.is near-kind, tt)
+pub invariant_of-notes : goal.invariant_of-notes
+invariant_of-notes g c =
+    record {
+      near = λ k lt. let near_kind = c.in-Some.entry.near k lt in let P : Kind → Type 0 = λ x. near c.in-Some.entry.count (note x k) ≡ true in subst P c.in-Deletion.is near_kind;
+    }
 
 pub returns-in-Insertion : goal.returns-in-Insertion
 unfolding view
@@ -40,9 +42,9 @@ returns-in-Insertion g c =
     let hs = group_at (list.view c.args.self.now.list) c.args.group in
     let said = ap (λ (e : Option Entry). read_as e c.read-reading.result.kept.now) (sym c.in-Some.is) ∙ c.read-reading.ensures.value in
     record {
-      view = insertion_gone hs c.args.i c.in-Some.entry c.read-reading.result.kept.now c.requires.there said _ _ c.in-Insertion.is c.take-out.ensures.view;
-      state = c.take-out.ensures.state;
-      made = c.take-out.ensures.made;
+      view = insertion_gone hs c.args.i c.in-Some.entry c.read-reading.result.kept.now c.requires.there said _ _ c.in-Insertion.is c.take_out.ensures.view;
+      state = c.take_out.ensures.state;
+      made = c.take_out.ensures.made;
     }
 
 pub returns-in-Deletion : goal.returns-in-Deletion
@@ -58,7 +60,7 @@ returns-in-Deletion g c =
     let comes = deletion_comes hs c.args.i c.in-Some.entry kept c.requires.there said w c.in-Deletion.distances c.in-Deletion.is c.requires.admitted in
     record {
       view = deletion_back hs c.args.i c.in-Some.entry kept c.requires.there said w _ c.in-Deletion.distances c.in-Deletion.is
-          (return_done text room c.args.self.now _ c.places-now-places.result c.in-Some.entry.place c.in-Some.entry.count kept c.in-Deletion.distances whole c.places-now-places.ensures.model comes (g.met.S.TextStore.limit c.args.self.now.store) c.insert.ensures.text c.insert.ensures.room c.record-insertion.ensures.after c.put-back-self.ensures refl refl refl);
+          (return_done text room c.args.self.now _ c.places_now-places.result c.in-Some.entry.place c.in-Some.entry.count kept c.in-Deletion.distances whole c.places_now-places.ensures.model comes (g.met.S.TextStore.limit c.args.self.now.store) c.insert.ensures.text c.insert.ensures.room c.record_insertion.ensures.after c.put_back-self.ensures refl refl refl);
       state = refl;
       made = refl;
     }

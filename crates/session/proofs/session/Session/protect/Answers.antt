@@ -10,20 +10,20 @@ use Rattle.session.specs.View.{view}
 use Rattle.session.proofs.Checked.{second_fault, second_leaves}
 use Rattle.session.proofs.session.Session.protect.Goals as goal
 
-pub returns-in-err-next : goal.returns-in-err-next
+pub returns-in_err-next : goal.returns-in_err-next
 unfolding view protect_call_check protect_world
-returns-in-err-next g c = search rules
+returns-in_err-next g c = search rules
 
-pub returns-in-err-places : goal.returns-in-err-places
+pub returns-in_err-places : goal.returns-in_err-places
 unfolding view protect_call_check protect_world
-returns-in-err-places g c =
+returns-in_err-places g c =
     let s = c.args.s in
     let e = c.args.e in
-    let f : Fault = c.in-err-places.field-0.0 in
-    let err = err_from_is_err_and c.from-residual-in-err-places.result c.from-residual-in-err-places.ensures.1 in
-    let state = c.in-ok-next.ensures.passed.0 in
+    let f : Fault = c.in_err-places.field-0.0 in
+    let err = err_from_is_err_and c.from_residual-in_err-places.result c.from_residual-in_err-places.ensures.1 in
+    let state = c.in_ok-next.ensures.passed.0 in
     let Said : Model → Type 0 = λ m. ◌≡◌ {A = Result Model Fault} (Err f) (outcome (protect_check m s e) s (protected s e m)) in
-    let said = subst Said c.places-now.ensures.model c.in-err-places.ensures.value in
+    let said = subst Said c.places_now.ensures.model c.in_err-places.ensures.value in
     record {
       value = (err.1 ∙ ap Err err.2) ∙ second_fault _ _ s f _ state said;
       world = second_leaves _ _ s f _ _ _ state said;

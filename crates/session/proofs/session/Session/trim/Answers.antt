@@ -3,13 +3,13 @@ use Rattle.session.specs.Calls.{trim_call_check, trim_world}
 use Rattle.session.specs.View.{view}
 use Rattle.session.proofs.session.Session.trim.Goals as goal
 
-pub returns-in-err-next : goal.returns-in-err-next
+pub returns-in_err-next : goal.returns-in_err-next
 unfolding view trim_call_check trim_world
-returns-in-err-next g c = search rules
+returns-in_err-next g c = search rules
 
-pub returns-in-err-trim : goal.returns-in-err-trim
+pub returns-in_err-trim : goal.returns-in_err-trim
 unfolding view trim_call_check trim_world
-returns-in-err-trim g c = search rules
+returns-in_err-trim g c = search rules
 
 pub returns : goal.returns
 unfolding view trim_call_check trim_world

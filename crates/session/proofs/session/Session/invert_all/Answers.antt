@@ -1,0 +1,52 @@
+use Rattle.std.proofs.Common.{◌≡◌, ◌+◌, ◌<◌, ◌≤◌, length, drop, get_or, sym, ap, ◌∙◌, subst}
+use Rattle.undo_list.specs.Groups.{group_at}
+use Rattle.undo_list.specs.Spell.{nothing}
+use Rattle.session.specs.Admitted.{Admits, AdmitsOne}
+use Rattle.session.specs.Undo.{invert, invert_all}
+use Rattle.session.specs.View.{view}
+use Rattle.session.specs.World.{World}
+use Rattle.session.proofs.Steps.{admits_here, admits_next, closed_group_at, closed_stay, inverts_next, inverts_none}
+use Rattle.session.proofs.Views.{groups_seen}
+use Rattle.session.proofs.session.Session.invert_all.Goals as goal
+
+pub invert_entry-requires-clause-there : goal.invert_entry-requires-clause-there
+invert_entry-requires-clause-there g c =
+    let v = view g.S.TextStore.text g.S.TextStore.room in
+    let gs = (v c.args.self.now).groups in
+    let same = closed_group_at (v c.loop-i.self).groups gs c.args.group c.loop-i.invariant.2 c.requires.closed in
+    let all = c.group_len-count.ensures ∙ ap (λ x. length (group_at x c.args.group)) (groups_seen g.S.TextStore.text g.S.TextStore.room c.args.self.now) in
+    subst (λ x. c.loop-i.i < length x) (sym same) (subst (λ n. c.loop-i.i < n) all c.loop-i-test.true)
+
+pub invert_entry-requires-clause-admitted : goal.invert_entry-requires-clause-admitted
+invert_entry-requires-clause-admitted g c =
+    let v = view g.S.TextStore.text g.S.TextStore.room in
+    let gs = (v c.args.self.now).groups in
+    let same = closed_group_at (v c.loop-i.self).groups gs c.args.group c.loop-i.invariant.2 c.requires.closed in
+    let all = c.group_len-count.ensures ∙ ap (λ x. length (group_at x c.args.group)) (groups_seen g.S.TextStore.text g.S.TextStore.room c.args.self.now) in
+    let here = admits_here (group_at gs c.args.group) c.loop-i.i (subst (λ n. c.loop-i.i < n) all c.loop-i-test.true) (v c.loop-i.self) c.loop-i.invariant.1 in
+    subst (λ x. AdmitsOne (get_or x c.loop-i.i nothing) (v c.loop-i.self)) (sym same) here
+
+pub loop-i-preserved : goal.loop-i-preserved
+loop-i-preserved g c =
+    let v = view g.S.TextStore.text g.S.TextStore.room in
+    let gs = (v c.args.self.now).groups in
+    let hs = group_at gs c.args.group in
+    let i = c.loop-i.i in
+    let w = v c.loop-i.self in
+    let same = closed_group_at w.groups gs c.args.group c.loop-i.invariant.2 c.requires.closed in
+    let all = c.group_len-count.ensures ∙ ap (λ x. length (group_at x c.args.group)) (groups_seen g.S.TextStore.text g.S.TextStore.room c.args.self.now) in
+    let lt = subst (λ n. i < n) all c.loop-i-test.true in
+    let after : v c.invert_entry.new.self ≡ invert (get_or hs i nothing) w = c.invert_entry.ensures.view ∙ ap (λ x. invert (get_or x i nothing) w) same in (
+      ap (invert_all (drop (i + 1) hs)) after ∙ inverts_next hs i lt w ∙ c.loop-i.invariant.0,
+      subst (Admits (drop (i + 1) hs)) (sym after) (admits_next hs i lt w c.loop-i.invariant.1),
+      ap (λ (x : World). x.groups.closed) after ∙ closed_stay (get_or hs i nothing) w ∙ c.loop-i.invariant.2,
+      c.invert_entry.ensures.state ∙ c.loop-i.invariant.3,
+      c.invert_entry.ensures.made ∙ c.loop-i.invariant.4,
+    )
+
+pub returns-clause-view : goal.returns-clause-view
+returns-clause-view g c =
+    let v = view g.S.TextStore.text g.S.TextStore.room in
+    let hs = group_at (v c.args.self.now).groups c.args.group in
+    let all = c.group_len-count.ensures ∙ ap (λ x. length (group_at x c.args.group)) (groups_seen g.S.TextStore.text g.S.TextStore.room c.args.self.now) in
+    sym (inverts_none hs c.loop-i.i (v c.loop-i.self) (subst (λ n. n ≤ c.loop-i.i) all c.loop-i-test.false)) ∙ c.loop-i.invariant.0

@@ -1,6 +1,7 @@
 -- One call more. Assumes nothing.
 use Rattle.std.proofs.Common.{◌≡◌, ℕ, ◌+◌, ◌<◌, List, [], ◌∷◌, ◌++◌, map, length, get_or, take, sym, refl, ap, ◌∙◌, subst}
 use Rattle.std.proofs.lemmas.List.{take_more, map_push}
+use Rattle.store.specs.declared.text_store.TextStore.{Ghosts}
 use Rattle.calls.specs.declared.answer.Answer.{Answer}
 use Rattle.calls.specs.declared.call.Call.{Call}
 use Rattle.calls.specs.Replies.{Reply, reply_of}
@@ -47,7 +48,7 @@ module _ (w : World) (cs : List Call) (i : ℕ) (c : Call) (lt : i < length cs) 
       let more = replies_push w (map said_by (take i cs)) (said_by c) ∙ refl in
       told ∙ ap (λ x. x ++ reply_of a ∷ []) said ∙ ap (λ x. replies w (map said_by (take i cs)) ++ x ∷ []) same ∙ sym more ∙ ap (replies w) (sym taken)
 
-pub ran : {S : Type 0} (text : S → List ℕ) (room : S → ℕ) (store : S) (cs : List Call) (r : Run S) (w : World) → w ≡ new_world (text store) (room store) → RanFrom text room w cs r → Ran text room store cs r
+pub ran : {S : Type 0} {B : Ghosts S} (text : S → List ℕ) (room : S → ℕ) (store : S) (cs : List Call) (r : Run S B) (w : World) → w ≡ new_world (text store) (room store) → RanFrom text room w cs r → Ran text room store cs r
 ran text room store cs (Finished session answers) w is h = let P : World → Type 0 = λ v. Answered v cs answers (view text room session) in subst P is h
 ran text room store cs (Interrupted session) w is h = let P : World → Type 0 = λ v. Stopped v cs (view text room session) in subst P is h
 ran text room store cs (Unmade back) w is h = elim h [ ]

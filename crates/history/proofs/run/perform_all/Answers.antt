@@ -9,18 +9,18 @@ use Rattle.history.specs.Runs.{replies, world_after}
 use Rattle.history.proofs.Runs.{replies_more, replies_none, world_more, world_none}
 use Rattle.history.proofs.run.perform_all.Goals as goal
 
-pub returns-in-err-answers : goal.returns-in-err-answers
-returns-in-err-answers g c =
-    let p = err_from_is_err_and c.from-residual.result c.from-residual.ensures.1 in
+pub returns-in_err-answers : goal.returns-in_err-answers
+returns-in_err-answers g c =
+    let p = err_from_is_err_and c.from_residual.result c.from_residual.ensures.1 in
     rw p.1 (record { done = tt; stopped = record { count = 0; within = omega arith; left = sym (world_none (view g.S.TextStore.text g.S.TextStore.room c.args.session.now)) } })
 
 pub loop-call-init : goal.loop-call-init
 loop-call-init g c = search (rules, world_none, replies_none)
 
-pub returns-in-err-answer : goal.returns-in-err-answer
-returns-in-err-answer g c =
+pub returns-in_err-answer : goal.returns-in_err-answer
+returns-in_err-answer g c =
     let lt : c.loop-call.call-index < length c.args.calls.now = omega arith in
-    let p = err_from_is_err_and c.from-residual-in-err-answer.result c.from-residual-in-err-answer.ensures.1 in
+    let p = err_from_is_err_and c.from_residual-in_err-answer.result c.from_residual-in_err-answer.ensures.1 in
     let left = world_more (view g.S.TextStore.text g.S.TextStore.room c.args.session.now) c.args.calls.now c.loop-call.call-index c.call-item.result lt c.call-item.is (view g.S.TextStore.text g.S.TextStore.room c.loop-call.session) (view g.S.TextStore.text g.S.TextStore.room c.perform.new.session) c.loop-call.invariant.3 c.perform.ensures.world in
     rw p.1 (record { done = tt; stopped = record { count = c.loop-call.call-index + 1; within = omega arith; left = left } })
 
@@ -31,7 +31,7 @@ loop-call-preserved g c =
     let u = view g.S.TextStore.text g.S.TextStore.room c.loop-call.session in (
       search rules,
       search rules,
-      replies_more w c.args.calls.now c.loop-call.call-index c.call-item.result lt c.call-item.is u (vec_items c.loop-call.answers) (vec_items c.push-reserved.new.self) c.in-ok-answer.answer c.loop-call.invariant.3 c.loop-call.invariant.2 c.in-ok-answer.ensures.reply c.push-reserved.ensures.items,
+      replies_more w c.args.calls.now c.loop-call.call-index c.call-item.result lt c.call-item.is u (vec_items c.loop-call.answers) (vec_items c.push_reserved.new.self) c.in_ok-answer.answer c.loop-call.invariant.3 c.loop-call.invariant.2 c.in_ok-answer.ensures.reply c.push_reserved.ensures.items,
       world_more w c.args.calls.now c.loop-call.call-index c.call-item.result lt c.call-item.is u (view g.S.TextStore.text g.S.TextStore.room c.perform.new.session) c.loop-call.invariant.3 c.perform.ensures.world,
     )
 

@@ -1,10 +1,9 @@
 -- Quoting and unquoting, one byte more.
-use Rattle.std.proofs.Common.{◌≡◌, ℕ, zero, suc, ◌+◌, ◌-◌, ◌<◌, ◌≤◌, List, [], ◌∷◌, ◌++◌, length, get_or, take, drop, codes, sym, refl, ap, ◌∙◌, arith}
+use Rattle.std.proofs.Common.{◌≡◌, ℕ, ◌+◌, ◌-◌, ◌<◌, ◌≤◌, List, [], ◌∷◌, ◌++◌, length, get_or, take, drop, codes, sym, refl, ap, ◌∙◌, arith}
 use Rattle.std.proofs.lemmas.List.{append_assoc, append-nil, take_more, drop_more, take_all, take_rest, drop_all}
-use Rattle.call_list.specs.declared.expected.Expected.{Expected}
 use Rattle.call_list.specs.declared.expected.Expected.TheVariants.{PlainByte, ClosingQuote}
 use Rattle.call_list.specs.declared.quoting.Quoting.{Quoting}
-use Rattle.call_list.specs.declared.quoting.Quoting.TheVariants.{Plain, Escape, HighDigit, LowDigit}
+use Rattle.call_list.specs.declared.quoting.Quoting.TheVariants.{Plain}
 use Rattle.call_list.specs.declared.quoting.Turn.TheVariants.{Goes, Gives, Closes, Fails}
 use Rattle.call_list.specs.Blanks.{past_blanks}
 use Rattle.call_list.specs.Lines.{Line, given_bytes, opened, with_bytes}

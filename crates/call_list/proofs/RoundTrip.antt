@@ -1,5 +1,5 @@
 -- A call in its plain form, read as a line, is that call again.
-use Rattle.std.proofs.Common.{◌≡◌, ℕ, zero, suc, ◌+◌, ◌-◌, ◌*◌, ◌/◌, ◌%◌, ◌^◌, ◌<◌, ◌≤◌, true, false, cond, ◌&&◌, eqb, ltb, leb, List, [], ◌∷◌, ◌++◌, length, drop, Some, None, vec_items, codes, decimal, Option, sym, refl, ap, ◌∙◌, subst, inl, inr, mod-lt, div-add-mod', arith, length-append}
+use Rattle.std.proofs.Common.{◌≡◌, ℕ, ◌+◌, ◌-◌, ◌*◌, ◌/◌, ◌%◌, ◌^◌, ◌<◌, true, false, ◌&&◌, eqb, ltb, leb, List, [], ◌∷◌, ◌++◌, length, Some, None, vec_items, codes, decimal, Option, sym, refl, ap, ◌∙◌, subst, mod-lt, div-add-mod', arith, length-append}
 use Rattle.std.proofs.lemmas.Fmt.{decimal_by_steps}
 use Rattle.std.proofs.lemmas.List.{append_assoc, append-nil, drop_all}
 use Rattle.std.proofs.lemmas.Bool.{cond_both, eqb-true}
@@ -10,9 +10,9 @@ use Rattle.call_list.specs.declared.expected.Argument.TheVariants.{Place, Count}
 use Rattle.call_list.specs.Again.{Bytes, PlainFormsReadBack}
 use Rattle.call_list.specs.Lines.{Line, Said, at_end, byte_asked, copy, delete, given_bytes, given_number, insert, reads, with_bytes, with_number}
 use Rattle.call_list.specs.Blanks.{is_blank, past_blanks, first_word, behind_word}
-use Rattle.call_list.specs.declared.quoting.Quoting.TheVariants.{Plain, Escape, HighDigit, LowDigit}
+use Rattle.call_list.specs.declared.quoting.Quoting.TheVariants.{Plain, Escape}
 use Rattle.call_list.specs.Quotes.{escape, escaped, hex, quoted}
-use Rattle.call_list.specs.Unquotes.{Unquoted, behind, by_turn, closed, hex_turn, hex_value, malformed, turn_at, unquoted}
+use Rattle.call_list.specs.Unquotes.{behind, by_turn, closed, hex_turn, hex_value, turn_at, unquoted}
 use Rattle.call_list.proofs.Blanked.{digit_first}
 use Rattle.call_list.proofs.Quoted.{behind-behind}
 use Rattle.call_list.specs.declared.quoting.Turn.TheVariants.{Gives}

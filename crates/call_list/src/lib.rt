@@ -1,4 +1,6 @@
 // Lists of calls as text: one call to a line, read into calls, and calls and answers shown again.
+#![tactic(auto)]
+
 mod again;
 mod expected;
 mod names;

@@ -1,4 +1,6 @@
 // The command line of guyotchopper: what its words ask for, and doing it.
+#![tactic(auto)]
+
 mod help;
 mod options;
 mod over;

@@ -1,6 +1,8 @@
 // Carries out the command lines that standard input holds, one after the other, as guyotchopper
 // would, so that one run of the gate holds many: each is printed behind a $, then what it prints, or
 // the problem that guyotchopper would tell on standard error.
+#![tactic(auto)]
+
 use command::run;
 use std::io;
 use std::io::{BufRead, BufReader};

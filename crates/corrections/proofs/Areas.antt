@@ -3,7 +3,7 @@ use Rattle.std.proofs.Common.{◌≡◌, ℕ, ◌+◌, ◌≤◌, min, List, ◌
 use Rattle.std.proofs.lemmas.List.{same_lists, places}
 use Rattle.store.proofs.Passes.{copy_passes}
 use Rattle.store.specs.Edits.{answer, after_copy, copied, copy_check, unless, Copied}
-use Rattle.corrections.specs.Replies.{Reply, bytes, copy_reply, outcome}
+use Rattle.corrections.specs.Replies.{bytes, copy_reply, outcome}
 
 filled_area : (t old new : List ℕ) (p n : ℕ) → length old ≡ n → p + n ≤ length t → new ≡ copied t p n old → take n (new ++ drop (length new) old) ≡ take n (drop p t)
 filled_area t old new p n h1 h2 is = rw is (same_lists _ _ (search (rules, places)) (λ k d h. grind (arith, places)))

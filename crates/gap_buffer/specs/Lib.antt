@@ -1,3 +1,3 @@
+pub mod GapLength
 pub mod GapText
 pub mod Gaps
-pub mod Gapped

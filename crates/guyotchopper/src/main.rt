@@ -1,5 +1,7 @@
 // guyotchopper: corrects a text by a list of calls. A problem is told on standard error, and the
 // status is then 1.
+#![tactic(auto)]
+
 use command::run;
 use std::process::ExitCode;
 use std::{env, io};

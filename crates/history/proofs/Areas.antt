@@ -1,9 +1,9 @@
 -- What a copy leaves in an area of just its size. Assumes nothing.
-use Rattle.std.proofs.Common.{◌≡◌, ℕ, ◌+◌, ◌≤◌, min, List, ◌++◌, length, take, drop, None, ap, ◌∙◌, arith, rules}
+use Rattle.std.proofs.Common.{◌≡◌, ℕ, ◌+◌, ◌≤◌, min, List, ◌++◌, length, take, drop, None, ap, arith, rules}
 use Rattle.std.proofs.lemmas.List.{same_lists, places}
 use Rattle.store.proofs.Passes.{copy_passes}
 use Rattle.store.specs.Edits.{answer, copied, copy_check, Copied}
-use Rattle.calls.specs.Replies.{Reply, bytes}
+use Rattle.calls.specs.Replies.{bytes}
 use Rattle.history.specs.Steps.{copy_reply, said_copy}
 
 filled_area : (t old new : List ℕ) (p n : ℕ) → length old ≡ n → p + n ≤ length t → new ≡ copied t p n old → take n (new ++ drop (length new) old) ≡ take n (drop p t)

@@ -1,23 +1,18 @@
 -- Every call keeps what a list of calls keeps. Assumes nothing.
-use Rattle.std.proofs.Common.{◌≡◌, ℕ, ◌+◌, ◌-◌, ◌^◌, ◌<◌, ◌≤◌, Bool, true, false, cond, not, eqb, ltb, leb, List, [], ◌∷◌, map, length, Some, None, vec_items, Option, sym, refl, ap, ◌∙◌, subst, arith}
-use Rattle.std.proofs.lemmas.Bool.Decides.{nat_tests}
-use Rattle.places.specs.declared.edit.Edit.{Edit}
-use Rattle.places.specs.declared.edit.Edit.TheVariants.{Insertion, Deletion}
+use Rattle.std.proofs.Common.{◌≡◌, ℕ, ◌+◌, ◌-◌, ◌≤◌, true, List, [], ◌∷◌, map, length, Some, None, vec_items, Option, sym, refl, ap, ◌∙◌, arith}
 use Rattle.places.specs.declared.faults.Refusal.{Refusal}
-use Rattle.places.specs.Carry.{fits, after}
 use Rattle.places.specs.DryRun.{EachFits}
 use Rattle.places.specs.Refusals.{answer}
 use Rattle.undo_list.specs.Limits.{unless}
 use Rattle.calls.specs.declared.call.Call.{Call}
 use Rattle.calls.specs.declared.call.Call.TheVariants as call
-use Rattle.calls.specs.Replies.{Reply, done}
+use Rattle.calls.specs.Replies.{done}
 use Rattle.calls.specs.Said.{said_by}
 use Rattle.session.specs.Calls.{insert_check, insert_world, delete_check, delete_world, set_world, boundary_world, trim_world, protect_world, unprotect_world, narrow_world, widen_world}
-use Rattle.session.specs.Passes.{Insertable, Deletable}
 use Rattle.session.specs.World.{World, new_world, inserted, deleted}
 use Rattle.session.proofs.Edited.{insertion_long, deletion_long, length_inserted, length-deleted}
 use Rattle.session.proofs.Passed.{insert_passed, delete_passed, insertion_fits, deletion_fits}
-use Rattle.history.specs.Laws.{Coherent, Kept, edits_by, is_accepted, RunsKeep}
+use Rattle.history.specs.Laws.{Coherent, edits_by, is_accepted, RunsKeep}
 use Rattle.history.specs.Runs.{world_after}
 use Rattle.history.specs.Steps.{reply, said, step}
 

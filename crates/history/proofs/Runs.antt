@@ -4,7 +4,7 @@ use Rattle.std.proofs.lemmas.List.{take_more, map_push}
 use Rattle.store.specs.declared.text_store.TextStore.{Ghosts}
 use Rattle.calls.specs.declared.answer.Answer.{Answer}
 use Rattle.calls.specs.declared.call.Call.{Call}
-use Rattle.calls.specs.Replies.{Reply, reply_of}
+use Rattle.calls.specs.Replies.{reply_of}
 use Rattle.calls.specs.Said.{Said, said_by}
 use Rattle.session.specs.View.{view}
 use Rattle.session.specs.World.{World, new_world}

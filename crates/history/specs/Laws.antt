@@ -6,7 +6,6 @@ use Rattle.places.specs.DryRun.{EachFits}
 use Rattle.calls.specs.declared.call.Call.{Call}
 use Rattle.calls.specs.Replies.{Reply, done, number, byte, bytes, window, place, undone, token, refusal}
 use Rattle.calls.specs.Said.{Said, said_by, insert, delete, set_marker, boundary, undo, redo, region_undo, trim, protect, unprotect, narrow, widen, open_change, accept, cancel, length_asked, capacity_asked, byte_asked, copy, marker_asked, window_asked, spans_asked, entries_asked, groups_asked}
-use Rattle.region.specs.Walks.{Walk}
 use Rattle.session.specs.Region.{region_walk}
 use Rattle.session.specs.Undo.{inverse_of, undo_group, redo_group}
 use Rattle.session.specs.World.{World, new_world}

@@ -9,7 +9,6 @@ use Rattle.places.specs.Refusals.{answer, outcome, lifted_fault}
 use Rattle.undo_list.specs.Groups.{entries_in, groups_in}
 use Rattle.calls.specs.Replies.{Reply, done, number, byte, bytes, window, place, undone, token, refusal}
 use Rattle.calls.specs.Said.{Said, insert, delete, set_marker, boundary, undo, redo, region_undo, trim, protect, unprotect, narrow, widen, open_change, accept, cancel, length_asked, capacity_asked, byte_asked, copy, marker_asked, window_asked, spans_asked, entries_asked, groups_asked}
-use Rattle.region.specs.Walks.{Walk}
 use Rattle.session.specs.declared.state.Kind.TheVariants as kind
 use Rattle.session.specs.Calls.{insert_check, insert_world, delete_check, delete_world, marker_set_check, set_world, boundary_check, boundary_world, trim_call_check, trim_world, protect_call_check, protect_world, unprotect_call_check, unprotect_world, narrow_check, narrow_world, widen_check, widen_world}
 use Rattle.session.specs.Changes.{open_world, accept_world, cancel_world}

@@ -1,4 +1,6 @@
 // The parts of a line of text: words between blanks, decimal numbers, and bytes in double quotes.
+#![tactic(auto)]
+
 mod misquoted;
 mod quoting;
 mod words;

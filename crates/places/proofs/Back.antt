@@ -1,9 +1,9 @@
 -- An edit and its inverse give a record of places back. Assumes nothing.
-use Rattle.std.proofs.Common.{◌≡◌, ℕ, zero, suc, ◌+◌, ◌-◌, ◌^◌, ◌<◌, ◌≤◌, Bool, true, false, cond, not, ◌&&◌, ltb, leb, ◌⊎◌, List, [], ◌∷◌, map, length, get_or, Some, None, Option, sym, refl, ap, ◌∙◌, subst, inl, inr, arith}
+use Rattle.std.proofs.Common.{◌≡◌, ℕ, ◌+◌, ◌-◌, ◌^◌, ◌<◌, ◌≤◌, true, false, leb, ◌⊎◌, List, [], ◌∷◌, map, length, get_or, Some, None, Option, sym, refl, ap, ◌∙◌, inl, inr, arith}
 use Rattle.std.specs.List.{AllZip, AllByRecursion as All}
 use Rattle.std.proofs.lemmas.List.FromFn.{length-map-range_with_len}
 use Rattle.std.proofs.lemmas.List.{ext_get_or}
-use Rattle.std.proofs.lemmas.Bool.{and_parts, and_from, not-true, not_from_false, cases_Bool, cond-true, cond-false, leb-true, leb-false, le-leb, lt-leb}
+use Rattle.std.proofs.lemmas.Bool.{and_parts, and_from, not-true, not_from_false, cases_Bool, cond-true, leb-true, leb-false, le-leb, lt-leb}
 use Rattle.std.proofs.lemmas.Bool.Decides.{nat_tests}
 use Rattle.places.specs.declared.edit.Edit.{Edit}
 use Rattle.places.specs.declared.edit.Edit.TheVariants.{Insertion, Deletion}
@@ -12,7 +12,7 @@ use Rattle.places.specs.declared.edit.Origin.TheVariants.{Call, Undo}
 use Rattle.places.specs.declared.record.Span.{Span}
 use Rattle.places.specs.Carry.{fits, carried, after, restored, deletion_inverted}
 use Rattle.places.specs.Checks.{in_window}
-use Rattle.places.specs.Laws.{admitted, byte_after, SameBytes}
+use Rattle.places.specs.Laws.{admitted, SameBytes}
 use Rattle.places.specs.Markers.{marker_inserted, marker_deleted, marker_after, noted, put_back, markers_after, markers_noted, markers_put_back}
 use Rattle.places.specs.Model.{Model}
 use Rattle.places.specs.Near.{near}

@@ -1,5 +1,5 @@
 -- What keeps a record of places within its length. Assumes nothing.
-use Rattle.std.proofs.Common.{◌≡◌, ℕ, ◌+◌, ◌<◌, ◌≤◌, min, Bool, ◌≢◌, List, length, get_or, take, set, filter, sym, ap, ◌∙◌, subst, inl, inr, arith, length-take, get_or-set_other, get_or-set_same}
+use Rattle.std.proofs.Common.{◌≡◌, ℕ, ◌+◌, ◌<◌, ◌≤◌, Bool, ◌≢◌, List, length, get_or, take, set, filter, subst, inl, inr, arith, length-take, get_or-set_other, get_or-set_same}
 use Rattle.std.specs.List.{AllByRecursion as All}
 use Rattle.std.proofs.ByRecursion.{All-from_get_or, all_kept_by, All-get_or}
 use Rattle.std.proofs.lemmas.List.{get_or-take, ext_get_or}

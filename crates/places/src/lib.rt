@@ -1,5 +1,7 @@
 // What every edit of a text carries along: sixteen markers, up to eight read-only spans and the
 // window, in one record whose type keeps each of them within the text's length.
+#![tactic(auto)]
+
 pub mod calls;
 pub mod carry;
 pub mod checks;

@@ -1,5 +1,5 @@
 -- A call that a later check refuses. Assumes nothing.
-use Rattle.std.proofs.Common.{◌≡◌, ℕ, Some, None, Ok, Err, Option, Result, sym, refl, ap, ◌∙◌}
+use Rattle.std.proofs.Common.{◌≡◌, ℕ, Some, None, Err, Option, Result, refl}
 use Rattle.places.specs.declared.faults.Fault.{Fault}
 use Rattle.places.specs.declared.faults.Refusal.{Refusal}
 use Rattle.places.specs.Refusals.{answer, outcome}

@@ -1,9 +1,9 @@
 -- One entry more, as the undo list counts it. Assumes nothing.
-use Rattle.std.proofs.Common.{◌≡◌, ℕ, ◌+◌, ◌≤◌, List, [], ◌∷◌, ◌++◌, reverse, length, None, sym, refl, ap, ◌∙◌, arith, length-append}
+use Rattle.std.proofs.Common.{◌≡◌, ℕ, ◌+◌, ◌≤◌, List, [], ◌∷◌, ◌++◌, reverse, length, None, refl, ap, arith, length-append}
 use Rattle.std.proofs.lemmas.List.{length-reverse, reverse-append}
 use Rattle.std.proofs.lemmas.Bool.Decides.{nat_tests}
-use Rattle.undo_list.specs.Groups.{Held, PutIn, Took, Groups, joined, kept_by, bytes_of, entries_in, bytes_in, recorded}
-use Rattle.undo_list.specs.Limits.{limit_check, entry_check}
+use Rattle.undo_list.specs.Groups.{Held, Groups, joined, kept_by, bytes_of, entries_in, bytes_in, recorded}
+use Rattle.undo_list.specs.Limits.{entry_check}
 
 joined_length : (gs : List (List Held)) (h : Held) (hs : List Held) → length (joined gs (h ∷ hs)) ≡ length (joined gs hs) + 1
 joined_length [] h hs = simp length-reverse (omega arith)

@@ -1,5 +1,5 @@
 -- What an edit that passed its checks leaves. Assumes nothing.
-use Rattle.std.proofs.Common.{◌≡◌, ℕ, ◌+◌, ◌-◌, ◌^◌, ◌<◌, ◌≤◌, true, false, cond, eqb, ltb, leb, List, ◌++◌, length, take, drop, Some, None, vec_items, Option, sym, refl, ap, ◌∙◌, arith, length-append, length-drop, length-take}
+use Rattle.std.proofs.Common.{◌≡◌, ℕ, ◌+◌, ◌-◌, ◌≤◌, true, false, eqb, ltb, List, length, take, drop, None, Option, sym, refl, ap, ◌∙◌, arith, length-append, length-drop, length-take}
 use Rattle.std.proofs.lemmas.List.{take_at}
 use Rattle.std.proofs.lemmas.Bool.Decides.{nat_tests}
 use Rattle.store.specs.Edits as store
@@ -19,8 +19,8 @@ use Rattle.session.specs.declared.session.Session.{Session}
 use Rattle.session.specs.Admitted.{Removable, Returnable}
 use Rattle.session.specs.Passes.{Insertable}
 use Rattle.session.specs.View.{view}
-use Rattle.session.specs.World.{World, fitted, inserted, deleted, put_back}
-use Rattle.session.proofs.Views.{world, seen}
+use Rattle.session.specs.World.{fitted, inserted, deleted, put_back}
+use Rattle.session.proofs.Views.{seen}
 
 -- The store and the list take such an insertion.
 pub insertion_stored : (len room p n : ℕ) → 1 ≤ n → n ≤ 4096 → p ≤ len → len + n ≤ room → store.insert_check len room p n ≡ None

@@ -1,9 +1,8 @@
 -- An entry of the undo list, as it is read, and its inversion. Assumes nothing.
-use Rattle.std.proofs.Common.{◌≡◌, ℕ, ◌+◌, ◌<◌, ◌≤◌, true, List, length, get_or, Some, None, Option, sym, refl, ap, ◌∙◌, subst, arith}
+use Rattle.std.proofs.Common.{◌≡◌, ℕ, ◌<◌, List, length, get_or, Some, None, Option, sym, ap, ◌∙◌, subst, arith}
 use Rattle.std.specs.List.{slice_get}
 use Rattle.std.proofs.lemmas.Option.{slice_get-get_or}
 use Rattle.undo_list.specs.declared.entry.Entry.{Entry}
-use Rattle.undo_list.specs.declared.kind.Kind.{Kind}
 use Rattle.undo_list.specs.declared.kind.Kind.TheVariants.{Insertion, Deletion}
 use Rattle.undo_list.specs.Kinds.{kept_of}
 use Rattle.undo_list.specs.Groups.{Held, PutIn, Took}

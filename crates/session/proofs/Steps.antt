@@ -1,5 +1,5 @@
 -- One step of the inversion of a group: the newest entry that is left, and then the rest.
-use Rattle.std.proofs.Common.{◌≡◌, ℕ, ◌+◌, ◌<◌, ◌≤◌, List, [], ◌∷◌, ◌++◌, length, drop, get_or, sym, refl, ap, ◌∙◌, subst, arith}
+use Rattle.std.proofs.Common.{◌≡◌, ℕ, ◌+◌, ◌<◌, ◌≤◌, List, [], ◌∷◌, length, drop, get_or, sym, refl, ap, ◌∙◌, subst}
 use Rattle.std.proofs.lemmas.List.{drop_more, get_or_append_left, drop_all}
 use Rattle.undo_list.specs.Groups.{Held, PutIn, Took, Groups, group_at}
 use Rattle.undo_list.specs.Spell.{nothing}

@@ -1,9 +1,8 @@
 -- Checks that are put to all edits admit each of them at its turn. Assumes nothing.
-use Rattle.std.proofs.Common.{◌≡◌, ℕ, ◌+◌, ◌-◌, ◌*◌, ◌^◌, ◌<◌, ◌≤◌, Bool, true, false, cond, not, ◌&&◌, eqb, ltb, leb, List, [], ◌∷◌, ◌++◌, map, reverse, length, take, drop, Some, None, Ok, Err, Option, Result, sym, refl, ap, ◌∙◌, subst, append-nil, arith, length-append, length-drop, length-take}
+use Rattle.std.proofs.Common.{◌≡◌, ℕ, ◌+◌, ◌-◌, ◌*◌, ◌^◌, ◌<◌, ◌≤◌, true, ◌&&◌, ltb, leb, List, [], ◌∷◌, ◌++◌, map, reverse, length, take, drop, Some, None, Ok, Err, Option, Result, sym, refl, ap, ◌∙◌, subst, append-nil, arith, length-append, length-drop, length-take}
 use lib.ListN.{length-map}
 use Rattle.std.proofs.lemmas.Bool.{cond-true, cond_both}
 use Rattle.std.proofs.lemmas.Bool.Decides.{nat_tests}
-use Rattle.store.specs.Edits.{inserted_at, deleted_at}
 use Rattle.places.specs.declared.edit.Check.TheVariants.{Place, Window, Spans}
 use Rattle.places.specs.declared.edit.Edit.{Edit}
 use Rattle.places.specs.declared.edit.Edit.TheVariants.{Insertion, Deletion}
@@ -11,19 +10,18 @@ use Rattle.places.specs.declared.edit.Origin.TheVariants.{Undo}
 use Rattle.places.specs.declared.faults.Fault.{Fault}
 use Rattle.places.specs.declared.faults.Refusal.{Refusal}
 use Rattle.places.specs.Carry.{fits, carried, after, restored, deletion_inverted}
-use Rattle.places.specs.Checks.{in_window}
 use Rattle.places.specs.DryRun.{edit_check, sight, put_to_all, EachFits, growth_of_all}
 use Rattle.places.specs.Edits.{growth, loss}
 use Rattle.places.specs.Markers.{markers_noted}
 use Rattle.places.specs.Model.{Model}
 use Rattle.places.specs.Spans.{span_after}
 use Rattle.places.proofs.Run.{each_fits}
-use Rattle.undo_list.specs.Groups.{Held, PutIn, Took, Groups, joined, bytes_of, entries_in, bytes_in, groups_in, has_open, recorded, shut, after_close}
+use Rattle.undo_list.specs.Groups.{Held, PutIn, Took, Groups, joined, bytes_of, entries_in, bytes_in, groups_in, has_open, shut, after_close}
 use Rattle.undo_list.specs.Limits.{count_check, group_check, limit_check}
-use Rattle.turns.specs.Checks.{or_else, room_check}
+use Rattle.turns.specs.Checks.{room_check}
 use Rattle.turns.specs.Faults.{fault_of, fault_in, fault_moved, first_fault, counts_check, rooms_check, losses, edits_fault}
 use Rattle.session.specs.Admitted.{Admits, Removable, Returnable}
-use Rattle.session.specs.Undo.{inverse_of, invert, with_closed}
+use Rattle.session.specs.Undo.{inverse_of, with_closed}
 use Rattle.session.specs.World.{World, deleted, put_back}
 use Rattle.session.proofs.Counted.{entries_recorded, bytes_recorded, entry_listed}
 use Rattle.session.proofs.Edited.{deletion_long, return_long, length_inserted, length-deleted}

@@ -1,7 +1,7 @@
 -- What the inversion of an entry asks of the world at its turn, so that the store, the record of places and
 -- the undo list take it. It follows from the checks that are put to all edits before. Assumes nothing.
 use Rattle.std.specs.Prelude.{◌≡◌, ℕ, ◌+◌, ◌≤◌, true, List, [], ◌∷◌, length, None}
-use Rattle.places.specs.declared.edit.Edit.TheVariants.{Insertion, Deletion}
+use Rattle.places.specs.declared.edit.Edit.TheVariants.{Deletion}
 use Rattle.places.specs.Carry.{fits}
 use Rattle.undo_list.specs.Groups.{Held, PutIn, Took}
 use Rattle.undo_list.specs.Limits.{entry_check}

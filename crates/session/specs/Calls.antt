@@ -2,14 +2,13 @@
 -- for each its checks in the order of the table, and the world after it. A refused call leaves the
 -- world as it was. Assumes nothing.
 use Rattle.std.specs.Prelude.{ℕ, List, length, Option}
-use Rattle.places.specs.declared.edit.Edit.{Edit}
 use Rattle.places.specs.declared.edit.Edit.TheVariants.{Insertion, Deletion}
 use Rattle.places.specs.declared.edit.Origin.TheVariants.{Call}
 use Rattle.places.specs.declared.faults.Refusal.{Refusal}
 use Rattle.places.specs.Calls.{with_marker, protected, unprotected, narrowed, widened}
 use Rattle.places.specs.Model.{Model}
 use Rattle.places.specs.Checks.{set_check, range_check, protect_check, unprotect_check, place_check, window_check, span_check}
-use Rattle.undo_list.specs.Groups.{Groups, after_close, trimmed}
+use Rattle.undo_list.specs.Groups.{after_close, trimmed}
 use Rattle.undo_list.specs.Limits.{count_check, entry_check, trim_check, unless}
 use Rattle.turns.specs.Checks.{or_else, room_check}
 use Rattle.session.specs.declared.state.Kind.{Kind}

@@ -1,6 +1,5 @@
 -- Change groups: a change is opened, and accepted or cancelled. Assumes nothing.
-use Rattle.std.specs.Prelude.{ℕ, List, [], ◌∷◌, length, Option}
-use Rattle.places.specs.declared.faults.Refusal.{Refusal}
+use Rattle.std.specs.Prelude.{ℕ, List, [], ◌∷◌, length}
 use Rattle.store.specs.Edits.{inserted_at, deleted_at}
 use Rattle.undo_list.specs.Groups.{Held, PutIn, Took}
 use Rattle.undo_list.specs.Limits.{unless}

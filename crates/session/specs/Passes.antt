@@ -1,7 +1,7 @@
 -- What it means that an edit passed every check that a text asks of it. It follows from the checks, and
 -- is said apart so that a caller need not prove it. Assumes nothing.
 use Rattle.std.specs.Prelude.{◌≡◌, ℕ, ◌+◌, ◌≤◌, true, false, None}
-use Rattle.places.specs.declared.edit.Edit.TheVariants.{Insertion, Deletion}
+use Rattle.places.specs.declared.edit.Edit.TheVariants.{Deletion}
 use Rattle.places.specs.declared.edit.Origin.TheVariants.{Call}
 use Rattle.places.specs.Checks.{in_window}
 use Rattle.places.specs.Model.{Model}

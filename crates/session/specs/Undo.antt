@@ -6,13 +6,13 @@ use Rattle.places.specs.declared.edit.Edit.TheVariants.{Insertion, Deletion}
 use Rattle.places.specs.declared.faults.Fault.{Fault}
 use Rattle.places.specs.declared.faults.Refusal.{Refusal}
 use Rattle.places.specs.declared.faults.Refusal.TheVariants.{Presence}
-use Rattle.undo_list.specs.Groups.{Held, PutIn, Took, Groups, after_close, groups_in}
+use Rattle.undo_list.specs.Groups.{Held, PutIn, Took, after_close, groups_in}
 use Rattle.session.specs.declared.state.State.{State}
 use Rattle.session.specs.declared.state.State.TheVariants.{Rest, Chain, Change}
 use Rattle.session.specs.declared.state.Kind.TheVariants as kind
 use Rattle.turns.specs.Faults.{fault_of, first_fault, edits_fault, unless_fault}
 use Rattle.session.specs.States.{state_check}
-use Rattle.session.specs.World.{World, in_state, with_groups, deleted, put_back}
+use Rattle.session.specs.World.{World, with_groups, deleted, put_back}
 
 -- The edit that inverts an entry: an insertion's range goes, and a deletion's kept bytes come back.
 abbrev pub inverse_of : Held → Edit

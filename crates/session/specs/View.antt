@@ -1,5 +1,5 @@
 -- What a session stands for. Assumes nothing.
-use Rattle.std.specs.Prelude.{◌≡◌, ℕ, List, length, vec_items}
+use Rattle.std.specs.Prelude.{ℕ, List, length, vec_items}
 use Rattle.places.specs.Model.{model}
 use Rattle.undo_list.specs.View as list
 use Rattle.store.specs.declared.text_store.TextStore.{Ghosts}

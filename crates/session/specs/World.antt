@@ -1,5 +1,5 @@
 -- A session as plain values. Assumes nothing.
-use Rattle.std.specs.Prelude.{ℕ, ◌+◌, cond, List, [], length, take, drop, Option, ◌==◌}
+use Rattle.std.specs.Prelude.{ℕ, cond, List, [], length, take, drop, Option, ◌==◌}
 use Rattle.store.specs.Edits.{inserted_at, deleted_at}
 use Rattle.places.specs.declared.edit.Edit.TheVariants.{Insertion, Deletion}
 use Rattle.places.specs.Calls.{fresh}

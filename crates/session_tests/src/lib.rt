@@ -1,3 +1,5 @@
+#![tactic(auto)]
+
 // What a session answers to calls and leaves after them, in tables that are run over a store of each
 // make.
 #[cfg(test)]

@@ -1,5 +1,5 @@
 -- What the loops over edits answer on the way. Assumes nothing.
-use Rattle.std.specs.Prelude.{◌≡◌, ℕ, ◌+◌, ◌^◌, cond, List, [], ◌∷◌, length, Some, None, Ok, Err, Option, Result, nat_lt}
+use Rattle.std.specs.Prelude.{◌≡◌, ℕ, ◌^◌, cond, List, ◌∷◌, length, Some, None, Ok, Err, Option, Result, nat_lt}
 use Rattle.places.specs.declared.edit.Edit.{Edit}
 use Rattle.places.specs.declared.faults.Fault.{Fault}
 use Rattle.places.specs.Refusals.{answer, fault_at}

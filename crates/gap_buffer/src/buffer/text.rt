@@ -1,8 +1,8 @@
 // A gap buffer as a text store.
 ghost use Rattle.std.specs.Prelude.{◌≡◌, min, [], vec_len};
 ghost use Rattle.gap_buffer.specs.GapText.{gap_text, gap_room};
-ghost use Rattle.std.proofs.Common.{rules, arith};
-ghost use Rattle.gap_buffer.specs.Gapped.{length_gapped};
+ghost use Rattle.std.proofs.Common.{rules};
+ghost use Rattle.gap_buffer.specs.GapLength.{length_gapped};
 
 use super::GapBuffer;
 use crate::gap;
@@ -26,9 +26,9 @@ impl TextStore for GapBuffer {
 
     ghost room = { gap_room };
 
-    ghost within = { λ s. Prim.search (rules, length_gapped) };
+    ghost within = { Prim.search (rules, length_gapped) };
 
-    ghost limit = { first_of (Prim.search rules, Prim.grind (arith, Self.row.coded.inj)) };
+    ghost limit = { λ buffer. buffer.limit };
 
     fn len(&self) -> usize {
         self.text_len()

@@ -1,6 +1,6 @@
 // A piece table as a text store: the checks of each call, and then its work.
 ghost use Rattle.piece_table.specs.TableText.{table_text, table_room};
-ghost use Rattle.std.proofs.Common.{rules, arith};
+ghost use Rattle.std.proofs.Common.{rules};
 
 use super::PieceTable;
 use store::checks::{check_copy, check_delete, check_insert};
@@ -12,9 +12,9 @@ impl TextStore for PieceTable {
 
     ghost room = { table_room };
 
-    ghost within = { first_of (Prim.search rules, Prim.grind (arith, Self.row.coded.inj)) };
+    ghost within = { Prim.search rules };
 
-    ghost limit = { first_of (Prim.search rules, Prim.grind (arith, Self.row.coded.inj)) };
+    ghost limit = { λ table. table.limit };
 
     fn len(&self) -> usize {
         self.size

@@ -1,4 +1,4 @@
-use Rattle.std.proofs.Common.{vec_items, sym, ap, ◌∙◌, arith, rules}
+use Rattle.std.proofs.Common.{vec_items, arith, rules}
 use Rattle.call_list.proofs.Quoted.{unquoted_closes, unquoted_fails, unquoted_gives, unquoted_goes, unquoted_open, unquoted-start}
 use Rattle.call_list.proofs.quoting.unquote.Goals as goal
 use Rattle.call_list.proofs.quoting.unquote.Goals.{in-Goes, in-Gives+in_ok-push-in-Gives}

@@ -1,4 +1,3 @@
-use Rattle.std.proofs.Common.{rules}
 use Rattle.std.proofs.lemmas.Result.{err_from_is_err_and}
 use Rattle.call_list.specs.Lines.{at_end, insert, with_bytes}
 use Rattle.call_list.proofs.Misread.{misread_before}

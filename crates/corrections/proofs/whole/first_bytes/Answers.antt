@@ -1,4 +1,4 @@
-use Rattle.std.proofs.Common.{◌∙◌, arith, rules}
+use Rattle.std.proofs.Common.{rules}
 use Rattle.std.proofs.lemmas.List.{take_all}
 use Rattle.corrections.proofs.Areas.{first_part}
 use Rattle.corrections.proofs.whole.first_bytes.Goals as goal

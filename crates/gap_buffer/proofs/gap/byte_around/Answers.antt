@@ -1,5 +1,5 @@
 use Rattle.std.proofs.Common.{rules}
-use Rattle.gap_buffer.specs.Gapped.{byte_front, byte_behind, byte_none}
+use Rattle.gap_buffer.proofs.Gapped.{byte_front, byte_behind, byte_none}
 use Rattle.gap_buffer.proofs.gap.byte_around.Goals as goal
 
 pub returns-then-p-start : goal.returns-then-p-start

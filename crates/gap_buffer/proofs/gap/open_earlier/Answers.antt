@@ -1,5 +1,5 @@
 use Rattle.std.proofs.Common.{rules}
-use Rattle.gap_buffer.specs.Gapped.{moved_left}
+use Rattle.gap_buffer.proofs.Gapped.{moved_left}
 use Rattle.gap_buffer.proofs.gap.open_earlier.Goals as goal
 
 pub returns : goal.returns

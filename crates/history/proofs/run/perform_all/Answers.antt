@@ -1,10 +1,8 @@
-use Rattle.std.proofs.Common.{◌≡◌, ◌+◌, ◌<◌, map, length, vec_items, sym, ap, ◌∙◌, arith, rules}
+use Rattle.std.proofs.Common.{◌+◌, ◌<◌, map, length, vec_items, sym, ap, ◌∙◌, arith, rules}
 use Rattle.std.proofs.lemmas.List.{take_all}
 use Rattle.std.proofs.lemmas.Result.{err_from_is_err_and}
-use Rattle.calls.specs.Replies.{reply_of}
 use Rattle.calls.specs.Said.{said_by}
 use Rattle.session.specs.View.{view}
-use Rattle.session.specs.World.{World}
 use Rattle.history.specs.Runs.{replies, world_after}
 use Rattle.history.proofs.Runs.{replies_more, replies_none, world_more, world_none}
 use Rattle.history.proofs.run.perform_all.Goals as goal

@@ -1,6 +1,5 @@
 use Rattle.history.proofs.Kept.{runs_keep}
 use Rattle.history.proofs.Runs.{ran}
-use Rattle.std.proofs.Common.{sym}
 use Rattle.history.proofs.run.run_over.Goals as goal
 
 pub returns-in-Ok : goal.returns-in-Ok

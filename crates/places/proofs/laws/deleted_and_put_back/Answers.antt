@@ -2,7 +2,7 @@ use Rattle.std.proofs.Common.{◌≡◌, ap, ◌∙◌, arith}
 use Rattle.places.specs.declared.edit.Edit.TheVariants.{Deletion}
 use Rattle.places.specs.Carry.{after, deletion_inverted}
 use Rattle.places.specs.Markers.{markers_noted}
-use Rattle.places.specs.Model.{Model, model}
+use Rattle.places.specs.Model.{model}
 use Rattle.places.proofs.Back.{deleted_and_put_back}
 use Rattle.places.proofs.Kept.{all_sound}
 use Rattle.places.proofs.laws.deleted_and_put_back.Goals as goal

@@ -1,10 +1,9 @@
-use Rattle.std.proofs.Common.{◌≡◌, Err, sym, refl, ap, ◌∙◌}
+use Rattle.std.proofs.Common.{Err, refl, ap, ◌∙◌}
 use Rattle.std.proofs.lemmas.Result.{err_from_is_err_and}
 use Rattle.places.specs.declared.edit.Check.TheVariants.{Place, Window, Spans}
 use Rattle.places.specs.declared.edit.Origin.TheVariants.{Undo}
 use Rattle.places.specs.DryRun.{edit_check, sight, put_to_all}
 use Rattle.places.specs.Model.{model}
-use Rattle.undo_list.specs.View.{view}
 use Rattle.turns.specs.Faults.{edits_fault, counts_check, rooms_check}
 use Rattle.turns.specs.Rests.{list_fault, moved}
 use Rattle.turns.proofs.Judged.{of_answer, of_result, of_moved, stops, goes_on}

@@ -1,4 +1,4 @@
-use Rattle.std.proofs.Common.{◌≡◌, ◌+◌, ◌^◌, ◌<◌, ◌≤◌, length, ap, ◌∙◌, arith}
+use Rattle.std.proofs.Common.{◌+◌, ◌^◌, ◌≤◌, ap, ◌∙◌, arith}
 use Rattle.turns.proofs.Turned.{loss_more, loss_too_large, sum_done, sum_held, sum_too_large}
 use Rattle.turns.proofs.counts.losses.Goals as goal
 

@@ -1,5 +1,6 @@
 use Rattle.std.proofs.Common.{rules}
-use Rattle.gap_buffer.specs.Gapped.{cut, length_gapped}
+use Rattle.gap_buffer.specs.GapLength.{length_gapped}
+use Rattle.gap_buffer.proofs.Gapped.{cut}
 use Rattle.gap_buffer.proofs.buffer.GapBuffer.widen.Goals as goal
 
 pub returns : goal.returns

@@ -1,4 +1,4 @@
-use Rattle.std.proofs.Common.{◌≡◌, ℕ, true, List, length, IfSome, Some, None, Option, sym, refl, ap, ◌∙◌, subst}
+use Rattle.std.proofs.Common.{◌≡◌, true, length, IfSome, Option, sym, refl, ap, ◌∙◌, subst}
 use Rattle.places.specs.Near.{near}
 use Rattle.undo_list.specs.declared.entry.Entry.{Entry}
 use Rattle.undo_list.specs.declared.kind.Kind.{Kind}

@@ -1,4 +1,4 @@
-use Rattle.std.proofs.Common.{◌≡◌, refl, ap, ◌∙◌}
+use Rattle.std.proofs.Common.{refl, ap, ◌∙◌}
 use Rattle.places.specs.Calls.{fresh}
 use Rattle.session.proofs.Views.{made_anew}
 use Rattle.session.proofs.session.Session.over.Goals as goal

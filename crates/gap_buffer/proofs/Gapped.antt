@@ -1,15 +1,13 @@
 -- Laws of a memory with a gap in it.
 use Rattle.std.specs.Prelude.{◌≡◌, ℕ, ◌+◌, ◌-◌, ◌<◌, ◌≤◌, min, List, ◌++◌, length, take, drop, Some, None, slice_index, slice_index_or, slice_range}
 use borrow.Rule.Slice.PartMut.{put_mid, post_of}
-use Rattle.std.proofs.Common.{arith, rules, length-append, length-take, length-drop}
+use Rattle.std.proofs.Common.{arith, rules, length-take, length-drop}
 use Rattle.std.proofs.Math.Seq.{paste}
 use Rattle.std.proofs.lemmas.List.{same_lists, places}
 use Rattle.std.proofs.lemmas.Bool.Decides.{nat_tests}
 use Rattle.store.specs.Edits.{inserted_at, deleted_at, byte_at, copied}
 use Rattle.gap_buffer.specs.Gaps.{gapped}
-
-pub length_gapped : (m : List ℕ) (a b : ℕ) → a ≤ length m → length (gapped m a b) ≡ a + (length m - b)
-length_gapped m a b h = simp (length-append, length-take, length-drop) (omega arith)
+use Rattle.gap_buffer.specs.GapLength.{length_gapped}
 
 pub moved_left : (m : List ℕ) (p a b : ℕ) → p ≤ a → a ≤ b → b ≤ length m → gapped (paste m (b - (a - p)) (drop p m) (a - p)) p (b - (a - p)) ≡ gapped m a b
 moved_left m p a b h1 h2 h3 = same_lists _ _ (search (rules, places)) (λ k d h. grind (arith, places))

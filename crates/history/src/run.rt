@@ -32,6 +32,7 @@ pub fn perform_all<S: TextStore>(
 }
 
 // Makes a session over the store, and does the calls on it.
+#[tactic(auto, using(crate::proofs::Kept::runs_keep, crate::proofs::Runs::ran))]
 pub fn run_over<S: TextStore>(heap: Global, store: S, calls: &[Call]) -> Run<S>
     ensures run { Ran S.TextStore.text S.TextStore.room store calls.now result }
     ensures law { RunsKeep }

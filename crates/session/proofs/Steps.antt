@@ -24,13 +24,21 @@ module _ (hs : List Held) (i : ℕ) (lt : i < length hs) (w : World) where
   pub admits_here : Admits (drop i hs) w → AdmitsOne (get_or hs i nothing) w
   admits_here a = (subst (λ x. Admits x w) (drop_more hs i nothing lt) a).0
 
-  pub admits_next : Admits (drop i hs) w → Admits (drop (i + 1) hs) (invert (get_or hs i nothing) w)
-  admits_next a = (subst (λ x. Admits x w) (drop_more hs i nothing lt) a).1
+  -- v is the world after the inversion of entry i of the same group.
+  module _ (v : World) (xs : List Held) (same : xs ≡ hs) (done : v ≡ invert (get_or xs i nothing) w) where
+    inverted_here : v ≡ invert (get_or hs i nothing) w
+    inverted_here = done ∙ ap (λ x. invert (get_or x i nothing) w) same
 
-  pub inverts_next : invert_all (drop (i + 1) hs) (invert (get_or hs i nothing) w) ≡ invert_all (drop i hs) w
-  unfolding invert_all
-  inverts_next = sym (ap (λ x. invert_all x w) (drop_more hs i nothing lt))
+    pub admits_next : Admits (drop i hs) w → Admits (drop (i + 1) hs) v
+    admits_next a = subst (Admits (drop (i + 1) hs)) (sym inverted_here) (subst (λ x. Admits x w) (drop_more hs i nothing lt) a).1
 
-pub inverts_none : (hs : List Held) (i : ℕ) (w : World) → length hs ≤ i → invert_all (drop i hs) w ≡ w
+    pub inverts_next : (end : World) → invert_all (drop i hs) w ≡ end → invert_all (drop (i + 1) hs) v ≡ end
+    unfolding invert_all
+    inverts_next end leads = ap (invert_all (drop (i + 1) hs)) inverted_here ∙ sym (ap (λ x. invert_all x w) (drop_more hs i nothing lt)) ∙ leads
+
+    pub closed_next : (closed : List (List Held)) → w.groups.closed ≡ closed → v.groups.closed ≡ closed
+    closed_next closed stay = ap (λ (x : World). x.groups.closed) inverted_here ∙ closed_stay (get_or hs i nothing) w ∙ stay
+
+pub inverts_none : (hs : List Held) (i : ℕ) (w end : World) → length hs ≤ i → invert_all (drop i hs) w ≡ end → w ≡ end
 unfolding invert_all
-inverts_none hs i w all = ap (λ x. invert_all x w) (drop_all i hs all)
+inverts_none hs i w end all leads = sym (ap (λ x. invert_all x w) (drop_all i hs all)) ∙ leads

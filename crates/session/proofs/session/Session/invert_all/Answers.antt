@@ -1,11 +1,10 @@
-use Rattle.std.proofs.Common.{◌≡◌, ◌+◌, ◌<◌, ◌≤◌, length, drop, get_or, sym, ap, ◌∙◌, subst}
+use Rattle.std.proofs.Common.{◌<◌, ◌≤◌, length, get_or, sym, ap, ◌∙◌, subst}
 use Rattle.undo_list.specs.Groups.{group_at}
 use Rattle.undo_list.specs.Spell.{nothing}
-use Rattle.session.specs.Admitted.{Admits, AdmitsOne}
-use Rattle.session.specs.Undo.{invert, invert_all}
+use Rattle.session.specs.Admitted.{AdmitsOne}
+use Rattle.session.specs.Undo.{invert_all}
 use Rattle.session.specs.View.{view}
-use Rattle.session.specs.World.{World}
-use Rattle.session.proofs.Steps.{admits_here, admits_next, closed_group_at, closed_stay, inverts_next, inverts_none}
+use Rattle.session.proofs.Steps.{admits_here, admits_next, closed_group_at, closed_next, inverts_next, inverts_none}
 use Rattle.session.proofs.Views.{groups_seen}
 use Rattle.session.proofs.session.Session.invert_all.Goals as goal
 
@@ -36,10 +35,11 @@ loop-i-preserved g c =
     let same = closed_group_at w.groups gs c.args.group c.loop-i.invariant.2 c.requires.closed in
     let all = c.group_len-count.ensures ∙ ap (λ x. length (group_at x c.args.group)) (groups_seen g.S.TextStore.text g.S.TextStore.room c.args.self.now) in
     let lt = subst (λ n. i < n) all c.loop-i-test.true in
-    let after : v c.invert_entry.new.self ≡ invert (get_or hs i nothing) w = c.invert_entry.ensures.view ∙ ap (λ x. invert (get_or x i nothing) w) same in (
-      ap (invert_all (drop (i + 1) hs)) after ∙ inverts_next hs i lt w ∙ c.loop-i.invariant.0,
-      subst (Admits (drop (i + 1) hs)) (sym after) (admits_next hs i lt w c.loop-i.invariant.1),
-      ap (λ (x : World). x.groups.closed) after ∙ closed_stay (get_or hs i nothing) w ∙ c.loop-i.invariant.2,
+    let done = c.invert_entry.ensures.view in
+    let u = v c.invert_entry.new.self in (
+      inverts_next hs i lt w u _ same done (invert_all hs (v c.args.self.now)) c.loop-i.invariant.0,
+      admits_next hs i lt w u _ same done c.loop-i.invariant.1,
+      closed_next hs i lt w u _ same done gs.closed c.loop-i.invariant.2,
       c.invert_entry.ensures.state ∙ c.loop-i.invariant.3,
       c.invert_entry.ensures.made ∙ c.loop-i.invariant.4,
     )
@@ -49,4 +49,4 @@ returns-clause-view g c =
     let v = view g.S.TextStore.text g.S.TextStore.room in
     let hs = group_at (v c.args.self.now).groups c.args.group in
     let all = c.group_len-count.ensures ∙ ap (λ x. length (group_at x c.args.group)) (groups_seen g.S.TextStore.text g.S.TextStore.room c.args.self.now) in
-    sym (inverts_none hs c.loop-i.i (v c.loop-i.self) (subst (λ n. n ≤ c.loop-i.i) all c.loop-i-test.false)) ∙ c.loop-i.invariant.0
+    inverts_none hs c.loop-i.i (v c.loop-i.self) (invert_all hs (v c.args.self.now)) (subst (λ n. n ≤ c.loop-i.i) all c.loop-i-test.false) c.loop-i.invariant.0

@@ -1,5 +1,5 @@
-pub mod Blanked
 pub mod Listing
 pub mod Misread
-pub mod Quoted
+pub mod Opened
 pub mod RoundTrip
+pub mod Spaced

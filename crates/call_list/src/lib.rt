@@ -1,16 +1,19 @@
-// Lists of calls as text: one call to a line, read into calls, and calls and answers shown again.
+// Lists of calls as text: one call to a line, read into calls; and calls, answers and what stands at
+// the end shown again.
 #![tactic(auto)]
 
 mod again;
 mod expected;
-mod names;
-mod quoting;
+mod line;
+mod parts;
 mod reading;
 mod showing;
-mod words;
+mod state;
+mod unread;
 
 pub use again::plain_forms_read_back;
-pub use expected::{Argument, Expected, Unread};
+pub use expected::{Argument, Expected};
 pub use reading::{CallList, read_list};
-pub use showing::{line_text, text_line};
-pub use words::read_number;
+pub use showing::line_text;
+pub use state::summary_text;
+pub use unread::Unread;

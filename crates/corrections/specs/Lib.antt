@@ -1,4 +1,3 @@
 pub mod Corrects
-pub mod Replies
-pub mod Runs
+pub mod Summaries
 pub mod Whole

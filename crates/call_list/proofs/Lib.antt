@@ -1,5 +1,5 @@
+pub mod Blanked
 pub mod Listing
 pub mod Misread
-pub mod Opened
+pub mod Quoted
 pub mod RoundTrip
-pub mod Spaced

@@ -2,8 +2,8 @@
 use Rattle.std.proofs.Common.{◌≡◌, ℕ, ◌+◌, ◌-◌, ◌<◌, ◌≤◌, List, [], ◌∷◌, ◌++◌, map, length, get_or, take, drop, sym, refl, ap, ◌∙◌, arith}
 use Rattle.std.proofs.lemmas.List.{append_assoc, append-nil, drop_all, drop_more, map_push, take_all, take_more, take_rest}
 use Rattle.std.proofs.lemmas.Bool.{eq-eqb, ne_eqb}
-use Rattle.calls.specs.declared.call.Call.{Call}
-use Rattle.calls.specs.Said.{Said, said_by}
+use Rattle.corrections.specs.declared.calls.Call.{Call}
+use Rattle.call_list.specs.Lines.{Said, said_by}
 use Rattle.call_list.specs.Lists.{Listed, all, stops, joined, lines_of, listed, onto}
 
 -- Bytes of a line, none of them its end.

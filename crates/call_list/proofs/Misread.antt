@@ -1,7 +1,7 @@
 -- What a part of a line was not read as, by what the line was read as up to it.
 use Rattle.std.proofs.Common.{◌≡◌, ◌∙◌}
-use Rattle.call_list.specs.declared.unread.Misread.{Misread}
-use Rattle.call_list.specs.declared.unread.Misread.TheVariants.{Malformed, NoMemory}
+use Rattle.call_list.specs.declared.expected.Misread.{Misread}
+use Rattle.call_list.specs.declared.expected.Misread.TheVariants.{Malformed, NoMemory}
 use Rattle.call_list.specs.Lines.{Line, expects}
 use Rattle.call_list.specs.Misreads.{Misreads}
 

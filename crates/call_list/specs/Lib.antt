@@ -1,8 +1,10 @@
 pub mod Again
+pub mod Blanks
 pub mod Forms
 pub mod Lines
 pub mod Lists
 pub mod Misreads
-pub mod Named
+pub mod Numbers
 pub mod Parts
-pub mod State
+pub mod Quotes
+pub mod Unquotes

@@ -1,22 +1,43 @@
--- Reading the parts of a line, each with what is read on behind it. Assumes nothing.
-use Rattle.std.specs.Prelude.{◌≡◌, ℕ, cond, List, [], ◌∷◌, drop, Some, None, Ok, Err, Option, Result, ◌==◌}
-use Rattle.calls.specs.Said.{Said, said_by}
-use Rattle.calls.specs.declared.call.Call.{Call}
-use Rattle.line_parts.specs.Blanks.{past_blanks, first_word, behind_word}
-use Rattle.line_parts.specs.Numbers.{read_number}
-use Rattle.line_parts.specs.Unquotes.{Unquoted, closed, malformed, read_quoted}
+-- Reading a line, and a list of lines. Assumes nothing.
+use Rattle.std.specs.Prelude.{◌≡◌, ℕ, cond, List, [], ◌∷◌, drop, Some, None, Ok, Err, vec_items, codes, Option, Result, ◌==◌}
+use Rattle.std.specs.Str.{bytes_eq}
+use Rattle.corrections.specs.declared.calls.Call.{Call}
+use Rattle.corrections.specs.declared.calls.Call.TheVariants.{Insert, Delete, Length, Capacity, ByteAt, Copy}
 use Rattle.call_list.specs.declared.expected.Argument.{Argument}
+use Rattle.call_list.specs.declared.expected.Argument.TheVariants.{Place, Count}
 use Rattle.call_list.specs.declared.expected.Expected.{Expected}
 use Rattle.call_list.specs.declared.expected.Expected.TheVariants as wanted
-use Rattle.call_list.specs.declared.unread.Misread.{Misread}
+use Rattle.call_list.specs.declared.expected.Misread.{Misread}
+use Rattle.call_list.specs.declared.names.Name.{Name}
+use Rattle.call_list.specs.declared.names.Name.TheVariants as name
+use Rattle.call_list.specs.declared.quoting.Quoting.TheVariants.{Plain}
+use Rattle.call_list.specs.Blanks.{past_blanks, first_word, behind_word}
 use Rattle.call_list.specs.Misreads.{Misreads}
+use Rattle.call_list.specs.Numbers.{read_number}
+use Rattle.call_list.specs.Unquotes.{Unquoted, closed, malformed, unquoted}
+
+-- A call by what it says: of bytes, the bytes themselves and not the memory that holds them.
+pub data Said : Type 0 where
+  insert : ℕ → List ℕ → Said
+  delete : ℕ → ℕ → Said
+  length_asked : Said
+  capacity_asked : Said
+  byte_asked : ℕ → Said
+  copy : ℕ → ℕ → Said
+
+abbrev pub said_by : Call → Said
+said_by (Insert p bs) = insert p (vec_items bs)
+said_by (Delete p n) = delete p n
+said_by Length = length_asked
+said_by Capacity = capacity_asked
+said_by (ByteAt p) = byte_asked p
+said_by (Copy p n) = copy p n
 
 -- A line that is read, or what was expected in it.
 pub data Line : Type 0 where
   reads : Said → Line
   expects : Expected → Line
 
--- What is read on behind a number, if there is one.
 abbrev pub given_number : Option ℕ → Argument → (ℕ → Line) → Line
 given_number None of k = expects (wanted.Number of)
 given_number (Some n) of k = k n
@@ -25,21 +46,18 @@ given_number (Some n) of k = k n
 abbrev pub with_number : Argument → List ℕ → (ℕ → List ℕ → Line) → Line
 with_number of l k = given_number (read_number (first_word (past_blanks l))) of (λ n. k n (behind_word (past_blanks l)))
 
--- What is read on behind bytes in quotes, if they were read.
 abbrev pub given_bytes : Unquoted → List ℕ → (List ℕ → List ℕ → Line) → Line
 given_bytes (closed bs n) rest k = k bs (drop n rest)
-given_bytes (malformed e) rest k = expects (wanted.InQuotes e)
+given_bytes (malformed e) rest k = expects e
 
--- Bytes in quotes begin with a double quote.
 abbrev pub opened : List ℕ → (List ℕ → List ℕ → Line) → Line
 opened [] k = expects wanted.Bytes
-opened (b ∷ rest) k = cond (b == 34) (given_bytes (read_quoted rest) rest k) (expects wanted.Bytes)
+opened (b ∷ rest) k = cond (b == 34) (given_bytes (unquoted Plain rest) rest k) (expects wanted.Bytes)
 
 -- Bytes in double quotes come next; what stands behind them is read on.
 abbrev pub with_bytes : List ℕ → (List ℕ → List ℕ → Line) → Line
 with_bytes l k = opened (past_blanks l) k
 
--- A call, if nothing stands behind it.
 abbrev pub ended : List ℕ → Said → Line
 ended [] s = reads s
 ended (b ∷ bs) s = expects wanted.End
@@ -48,20 +66,46 @@ ended (b ∷ bs) s = expects wanted.End
 abbrev pub at_end : List ℕ → Said → Line
 at_end l s = ended (past_blanks l) s
 
--- One number makes the call.
-abbrev pub with_one : Argument → List ℕ → (ℕ → Said) → Line
-with_one a l make = with_number a l (λ n m. at_end m (make n))
+abbrev pub insert_line : List ℕ → Line
+insert_line l = with_number Place l (λ p m. with_bytes m (λ bs n. at_end n (insert p bs)))
 
--- Two numbers make the call.
-abbrev pub with_two : Argument → Argument → List ℕ → (ℕ → ℕ → Said) → Line
-with_two a b l make = with_number a l (λ n m. with_one b m (make n))
+abbrev pub delete_line : List ℕ → Line
+delete_line l = with_number Place l (λ p m. with_number Count m (λ n o. at_end o (delete p n)))
 
--- What a line was read as, or what was expected in it.
+abbrev pub copy_line : List ℕ → Line
+copy_line l = with_number Place l (λ p m. with_number Count m (λ n o. at_end o (copy p n)))
+
+abbrev pub byte_line : List ℕ → Line
+byte_line l = with_number Place l (λ p m. at_end m (byte_asked p))
+
+-- The first word names the call.
+abbrev pub name_of : List ℕ → Option Name
+name_of w =
+    cond (bytes_eq w (codes "insert")) (Some name.Insert)
+    (cond (bytes_eq w (codes "delete")) (Some name.Delete)
+    (cond (bytes_eq w (codes "length")) (Some name.Length)
+    (cond (bytes_eq w (codes "capacity")) (Some name.Capacity)
+    (cond (bytes_eq w (codes "byte")) (Some name.Byte)
+    (cond (bytes_eq w (codes "copy")) (Some name.Copy) None)))))
+
+abbrev pub named_line : Option Name → List ℕ → Line
+named_line None rest = expects wanted.Call
+named_line (Some name.Insert) rest = insert_line rest
+named_line (Some name.Delete) rest = delete_line rest
+named_line (Some name.Length) rest = at_end rest length_asked
+named_line (Some name.Capacity) rest = at_end rest capacity_asked
+named_line (Some name.Byte) rest = byte_line rest
+named_line (Some name.Copy) rest = copy_line rest
+
+abbrev pub call_line : List ℕ → Line
+call_line l = named_line (name_of (first_word (past_blanks l))) (behind_word (past_blanks l))
+
+-- What a part of a line was read as, or what was expected in it; nothing is said where memory is
+-- wanting.
 abbrev pub Reads : Result Call Expected → Line → Type 0
 Reads (Ok c) l = l ≡ reads (said_by c)
 Reads (Err e) l = l ≡ expects e
 
--- The same where memory can be wanting: nothing is said then.
 abbrev pub ReadsIn : Result Call Misread → Line → Type 0
 ReadsIn (Ok c) l = l ≡ reads (said_by c)
 ReadsIn (Err e) l = Misreads e (λ x. l ≡ expects x)

@@ -1,31 +1,26 @@
 -- Reading a list: one call to a line; blank lines, and lines that begin with #, are passed over.
 -- Assumes nothing.
 use Rattle.std.specs.Prelude.{◌≡◌, ℕ, ◌+◌, Bool, true, cond, List, [], ◌∷◌, ◌++◌, map, Ok, Err, vec_items, Result, ◌==◌}
-use Rattle.calls.specs.Said.{Said, said_by}
 use Rattle.call_list.specs.declared.expected.Expected.{Expected}
-use Rattle.call_list.specs.declared.unread.Unread.{Unread}
-use Rattle.call_list.specs.declared.unread.Unread.TheVariants.{Malformed, NoMemory}
+use Rattle.call_list.specs.declared.expected.Unread.{Unread}
+use Rattle.call_list.specs.declared.expected.Unread.TheVariants.{Malformed, NoMemory}
 use Rattle.call_list.specs.declared.reading.CallList.{CallList}
-use Rattle.line_parts.specs.Blanks.{past_blanks}
-use Rattle.call_list.specs.Lines.{Line, expects, reads}
-use Rattle.call_list.specs.Named.{call_line}
+use Rattle.call_list.specs.Blanks.{past_blanks}
+use Rattle.call_list.specs.Lines.{Line, Said, call_line, expects, reads, said_by}
 
--- A byte before the first line.
+-- The lines of a text, without their ends; one that ends in a line's end has no line behind it.
 abbrev pub onto : ℕ → List (List ℕ) → List (List ℕ)
 onto b [] = (b ∷ []) ∷ []
 onto b (l ∷ ls) = (b ∷ l) ∷ ls
 
--- The lines of a text, without their ends; one that ends in a line's end has no line behind it.
 abbrev pub lines_of : List ℕ → List (List ℕ)
 lines_of [] = []
 lines_of (b ∷ bs) = cond (b == 10) ([] ∷ lines_of bs) (onto b (lines_of bs))
 
--- Nothing, or a #.
 abbrev pub is_remark : List ℕ → Bool
 is_remark [] = true
 is_remark (b ∷ bs) = b == 35
 
--- A line that holds no call.
 abbrev pub passed_over : List ℕ → Bool
 passed_over l = is_remark (past_blanks l)
 
@@ -40,7 +35,6 @@ abbrev pub joined : List ℕ → List Said → Listed → Listed
 joined ns ss (all ms ts) = all (ns ++ ms) (ss ++ ts)
 joined ns ss (stops n e) = stops n e
 
--- What the n-th line was read as, before the rest.
 abbrev pub by_line : ℕ → Line → Listed → Listed
 by_line n (reads s) rest = joined (n ∷ []) (s ∷ []) rest
 by_line n (expects e) rest = stops n e
@@ -58,7 +52,6 @@ listed n (l ∷ ls) = at_line (n + 1) l (listed (n + 1) ls)
 abbrev pub held : CallList → Listed → Listed
 held v rest = joined (vec_items v.lines) (map said_by (vec_items v.calls)) rest
 
--- What a text was read as; nothing is said where memory is wanting.
 abbrev pub Lists : Result CallList Unread → List ℕ → Type 0
 Lists (Ok v) t = listed 0 (lines_of t) ≡ all (vec_items v.lines) (map said_by (vec_items v.calls))
 Lists (Err (Malformed n e)) t = listed 0 (lines_of t) ≡ stops n e
@@ -70,7 +63,6 @@ Adds (Ok u) v n l w = (rest : Listed) → held v (at_line n l rest) ≡ held w r
 Adds (Err (Malformed m e)) v n l w = (rest : Listed) → held v (at_line n l rest) ≡ stops m e
 Adds (Err NoMemory) v n l w = Unit {0}
 
--- The same of a call.
 abbrev pub AddsCall : Result (Unit {0}) Unread → CallList → ℕ → Said → CallList → Type 0
 AddsCall (Ok u) v n s w = (rest : Listed) → held v (joined (n ∷ []) (s ∷ []) rest) ≡ held w rest
 AddsCall (Err (Malformed m e)) v n s w = ⊥

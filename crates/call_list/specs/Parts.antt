@@ -2,41 +2,27 @@
 use Rattle.std.specs.Prelude.{◌≡◌, ℕ, List, Some, None, Ok, Err, vec_items, Option, Result, Vec}
 use Rattle.std.specs.Borrow.{Bor}
 use Rattle.std.specs.declared.alloc.Global.{Global}
-use Rattle.calls.specs.Said.{Said}
-use Rattle.line_parts.specs.Unquotes.{read_quoted}
 use Rattle.call_list.specs.declared.expected.Argument.{Argument}
 use Rattle.call_list.specs.declared.expected.Expected.{Expected}
 use Rattle.call_list.specs.declared.expected.Expected.TheVariants.{Bytes}
-use Rattle.call_list.specs.declared.unread.Misread.{Misread}
-use Rattle.call_list.specs.Lines.{Line, at_end, expects, given_bytes, reads, with_bytes, with_number, with_one, with_two}
+use Rattle.call_list.specs.declared.expected.Misread.{Misread}
+use Rattle.call_list.specs.declared.quoting.Quoting.TheVariants.{Plain}
+use Rattle.call_list.specs.Lines.{Line, Said, at_end, expects, given_bytes, reads, with_bytes, with_number}
 use Rattle.call_list.specs.Misreads.{Misreads}
+use Rattle.call_list.specs.Unquotes.{unquoted}
 
--- A number, and what stands behind it.
 abbrev pub NumberRead : List ℕ → Argument → Result (ℕ × Bor (List ℕ)) Expected → Type 0
 NumberRead l of (Ok v) = (k : ℕ → List ℕ → Line) → with_number of l k ≡ k v.0 v.1.now
 NumberRead l of (Err e) = (k : ℕ → List ℕ → Line) → with_number of l k ≡ expects e
 
--- One number, and nothing behind it.
-abbrev pub OneRead : List ℕ → Argument → Result ℕ Expected → Type 0
-OneRead l of (Ok n) = (make : ℕ → Said) → with_one of l make ≡ reads (make n)
-OneRead l of (Err e) = (make : ℕ → Said) → with_one of l make ≡ expects e
-
--- Two numbers, and nothing behind them.
-abbrev pub TwoRead : List ℕ → Argument → Argument → Result (ℕ × ℕ) Expected → Type 0
-TwoRead l a b (Ok v) = (make : ℕ → ℕ → Said) → with_two a b l make ≡ reads (make v.0 v.1)
-TwoRead l a b (Err e) = (make : ℕ → ℕ → Said) → with_two a b l make ≡ expects e
-
--- An opening quote, and what stands behind it.
 abbrev pub QuoteRead : List ℕ → Option (Bor (List ℕ)) → Type 0
 QuoteRead l None = (k : List ℕ → List ℕ → Line) → with_bytes l k ≡ expects Bytes
-QuoteRead l (Some rest) = (k : List ℕ → List ℕ → Line) → with_bytes l k ≡ given_bytes (read_quoted rest.now) rest.now k
+QuoteRead l (Some rest) = (k : List ℕ → List ℕ → Line) → with_bytes l k ≡ given_bytes (unquoted Plain rest.now) rest.now k
 
--- Bytes in quotes, and what stands behind them.
 abbrev pub BytesRead : List ℕ → Result (Vec ℕ Global × Bor (List ℕ)) Misread → Type 0
 BytesRead l (Ok v) = (k : List ℕ → List ℕ → Line) → with_bytes l k ≡ k (vec_items v.0) v.1.now
 BytesRead l (Err e) = (k : List ℕ → List ℕ → Line) → Misreads e (λ x. with_bytes l k ≡ expects x)
 
--- Nothing but blanks.
 abbrev pub EndRead : List ℕ → Result (Unit {0}) Expected → Type 0
 EndRead l (Ok u) = (s : Said) → at_end l s ≡ reads s
 EndRead l (Err e) = (s : Said) → at_end l s ≡ expects e

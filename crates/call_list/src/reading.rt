@@ -2,12 +2,12 @@
 // over. The whole list is read, or nothing of it.
 ghost use Rattle.std.specs.Prelude.{◌≡◌, ◌<◌, ◌∷◌, length};
 ghost use Rattle.call_list.specs.Lists.{Adds, AddsCall, Lists, lines_of, passed_over};
-ghost use Rattle.calls.specs.Said.{said_by};
+ghost use Rattle.call_list.specs.Lines.{Reads, ReadsIn, at_end, byte_line, call_line, copy_line, delete_line, insert_line, said_by};
 
-use crate::line::read_call;
-use crate::unread::Unread;
-use calls::call::Call;
-use line_parts::past_blanks;
+use crate::expected::{Argument, Expected, Misread, Unread};
+use crate::names::{Name, call_name};
+use crate::words::{end, number, past_blanks, quoted, word};
+use corrections::calls::Call;
 use std::alloc::Global;
 
 // The calls of a list, and the number of the line on which each stands.
@@ -76,4 +76,61 @@ fn is_passed_over(line: &[u8]) -> bool
     ensures { result ≡ passed_over line.now }
 {
     matches!(past_blanks(line), [] | [b'#', ..])
+}
+
+fn read_call(heap: Global, line: &[u8]) -> Result<Call, Misread>
+    ensures { ReadsIn result (call_line line.now) }
+{
+    let (name, rest) = word(line);
+    match call_name(name) {
+        Some(Name::Insert) => read_insert(heap, rest),
+        Some(Name::Delete) => Ok(read_delete(rest)?),
+        Some(Name::Length) => Ok(read_plain(Call::Length, rest)?),
+        Some(Name::Capacity) => Ok(read_plain(Call::Capacity, rest)?),
+        Some(Name::Byte) => Ok(read_byte(rest)?),
+        Some(Name::Copy) => Ok(read_copy(rest)?),
+        None => Err(Misread::Malformed(Expected::Call)),
+    }
+}
+
+fn read_insert(heap: Global, rest: &[u8]) -> Result<Call, Misread>
+    ensures { ReadsIn result (insert_line rest.now) }
+{
+    let (place, rest) = number(rest, Argument::Place)?;
+    let (bytes, rest) = quoted(heap, rest)?;
+    end(rest)?;
+    Ok(Call::Insert { place, bytes })
+}
+
+fn read_delete(rest: &[u8]) -> Result<Call, Expected>
+    ensures { Reads result (delete_line rest.now) }
+{
+    let (place, rest) = number(rest, Argument::Place)?;
+    let (count, rest) = number(rest, Argument::Count)?;
+    end(rest)?;
+    Ok(Call::Delete { place, count })
+}
+
+fn read_copy(rest: &[u8]) -> Result<Call, Expected>
+    ensures { Reads result (copy_line rest.now) }
+{
+    let (place, rest) = number(rest, Argument::Place)?;
+    let (count, rest) = number(rest, Argument::Count)?;
+    end(rest)?;
+    Ok(Call::Copy { place, count })
+}
+
+fn read_byte(rest: &[u8]) -> Result<Call, Expected>
+    ensures { Reads result (byte_line rest.now) }
+{
+    let (place, rest) = number(rest, Argument::Place)?;
+    end(rest)?;
+    Ok(Call::ByteAt { place })
+}
+
+fn read_plain(call: Call, rest: &[u8]) -> Result<Call, Expected>
+    ensures { Reads result (at_end rest.now (said_by call)) }
+{
+    end(rest)?;
+    Ok(call)
 }

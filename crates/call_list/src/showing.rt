@@ -1,11 +1,10 @@
 // Calls and answers as text. A call is shown in its plain form: decimal numbers, and bytes in
 // double quotes.
 ghost use Rattle.std.specs.Prelude.{◌≡◌, IfOk, string_bytes};
-ghost use Rattle.call_list.specs.Forms.{answer_form, call_form, line_form};
+ghost use Rattle.call_list.specs.Forms.{answer_form, call_form, line_form, text_form};
 
-use calls::answer::Answer;
-use calls::call::Call;
-use line_parts::quote;
+use crate::quoting::quote;
+use corrections::calls::{Answer, Call};
 use std::alloc::{AllocError, Global};
 
 // A line of output: the number of the call's line in the list, the call, an arrow and the answer.
@@ -22,6 +21,14 @@ pub fn line_text(
     format!(in heap; "{number} {asked} -> {said}")
 }
 
+// The text, as the state after the last call shows it.
+pub fn text_line(heap: Global, text: &[u8]) -> Result<String, AllocError>
+    ensures { IfOk result (λ s. string_bytes s ≡ text_form text.now) }
+{
+    let shown = quote(heap, text)?;
+    format!(in heap; "text {shown}")
+}
+
 fn call_text(heap: Global, call: &Call) -> Result<String, AllocError>
     ensures { IfOk result (λ s. string_bytes s ≡ call_form call.now) }
 {
@@ -31,22 +38,10 @@ fn call_text(heap: Global, call: &Call) -> Result<String, AllocError>
             format!(in heap; "insert {place} {shown}")
         }
         Call::Delete { place, count } => format!(in heap; "delete {place} {count}"),
-        Call::Set { marker, place } => format!(in heap; "set {marker} {place}"),
-        Call::Boundary => String::from_str(heap, "boundary"),
-        Call::Trim { groups } => format!(in heap; "trim {groups}"),
-        Call::Protect { start, end } => format!(in heap; "protect {start} {end}"),
-        Call::Unprotect { start, end } => format!(in heap; "unprotect {start} {end}"),
-        Call::Narrow { start, end } => format!(in heap; "narrow {start} {end}"),
-        Call::Widen => String::from_str(heap, "widen"),
         Call::Length => String::from_str(heap, "length"),
         Call::Capacity => String::from_str(heap, "capacity"),
         Call::ByteAt { place } => format!(in heap; "byte {place}"),
         Call::Copy { place, count } => format!(in heap; "copy {place} {count}"),
-        Call::Marker { marker } => format!(in heap; "marker {marker}"),
-        Call::Window => String::from_str(heap, "window"),
-        Call::Spans => String::from_str(heap, "spans"),
-        Call::Entries => String::from_str(heap, "entries"),
-        Call::Groups => String::from_str(heap, "groups"),
     }
 }
 
@@ -62,7 +57,6 @@ fn answer_text(heap: Global, answer: &Answer) -> Result<String, AllocError>
             let shown = quote(heap, bytes)?;
             format!(in heap; "bytes {shown}")
         }
-        Answer::Window { before, behind } => format!(in heap; "before {before}, behind {behind}"),
         Answer::Refused(fault) => format!(in heap; "refused {fault}"),
     }
 }

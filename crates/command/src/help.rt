@@ -15,16 +15,12 @@ usage: guyotchopper run [--store gap|pieces] [--capacity N] [--text FILE] [--out
   CALLS               the list of calls (standard input)
 
 One call to a line; blank lines, and lines that begin with #, are passed over:
-  insert PLACE \"BYTES\"   delete PLACE COUNT    set MARKER PLACE
-  protect START END      unprotect START END   narrow START END      widen
-  boundary               trim GROUPS
-  length   capacity   byte PLACE   copy PLACE COUNT   marker MARKER   window
-  spans    entries    groups
+  insert PLACE \"BYTES\"   delete PLACE COUNT   copy PLACE COUNT
+  byte PLACE             length               capacity
 Numbers are decimal. The escapes in bytes are \\\\ \\\" \\n \\t \\xHH; all other bytes from 0x20 to
 0x7e stand for themselves.
 
-For each call a line is printed: the number of its line, the call, an arrow and the answer; then what
-stands: the text, the sixteen markers, the window's counts, and how many spans, entries and groups
-there are. Where the words, the list or a file cannot be read, or the text does not fit, a message says
+For each call a line is printed: the number of its line, the call, an arrow and the answer; then the
+text. Where the words, the list or a file cannot be read, or the text does not fit, a message says
 what was expected, nothing is written, and the status is 1.
 ";

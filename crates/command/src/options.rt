@@ -1,12 +1,12 @@
 // What the words of a command line ask for.
 ghost use Rattle.std.specs.Prelude.{◌≡◌, ◌≤◌, IfOk, Some};
-ghost use Rattle.line_parts.specs.Numbers.{read_number};
+ghost use Rattle.call_list.specs.Numbers.{read_number};
 ghost use Rattle.command.specs.Options.{make_name};
 
 use crate::help::{HELP, VERSION};
 use crate::over::Make;
 use crate::problem::Problem;
-use line_parts::read_number;
+use call_list::read_number;
 use store::checks::MAX_CAPACITY;
 
 #[derive(Clone, Copy)]

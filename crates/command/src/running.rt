@@ -3,7 +3,7 @@
 use crate::options::{Command, RunOptions, parse};
 use crate::over::correct_over;
 use crate::problem::{Problem, STANDARD_INPUT};
-use call_list::{CallList, line_text, read_list, summary_text};
+use call_list::{CallList, line_text, read_list, text_line};
 use corrections::correct::{Corrected, Trouble};
 use std::io::Read;
 use std::{fs, io};
@@ -49,7 +49,7 @@ fn run_list<'a>(rt: &HostRuntime, options: RunOptions<'a>) -> Result<(), Problem
         Err(Trouble::NoMemory) => return Err(Problem::NoMemory),
     };
     if let Some(path) = options.out {
-        write_file(rt, path, &corrected.summary.text)?;
+        write_file(rt, path, &corrected.text)?;
     }
     printed(print_all(rt, &list, &corrected))
 }
@@ -90,7 +90,7 @@ fn write_file<'a>(rt: &HostRuntime, path: &'a str, bytes: &[u8]) -> Result<(), P
     }
 }
 
-// A line for each call, and then what stands.
+// A line for each call, and then the text.
 fn print_all(rt: &HostRuntime, list: &CallList, corrected: &Corrected) -> io::Result<()> {
     let heap = rt.alloc();
     for ((number, call), answer) in list
@@ -101,5 +101,5 @@ fn print_all(rt: &HostRuntime, list: &CallList, corrected: &Corrected) -> io::Re
     {
         rt.println(line_text(heap, *number, call, answer)?)?;
     }
-    rt.println(summary_text(heap, &corrected.summary)?)
+    rt.println(text_line(heap, &corrected.text)?)
 }

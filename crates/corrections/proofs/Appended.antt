@@ -1,5 +1,5 @@
 -- One insertion more at the end of a text.
-use Rattle.std.proofs.Common.{◌≡◌, ℕ, ◌+◌, ◌-◌, ◌<◌, ◌≤◌, min, List, ◌++◌, length, take, drop, None, ap, ◌∙◌, arith, length-append, length-drop, length-take, rules}
+use Rattle.std.proofs.Common.{◌≡◌, ℕ, ◌+◌, ◌-◌, ◌<◌, ◌≤◌, min, List, ◌++◌, length, take, drop, None, ap, arith, length-append, length-drop, length-take, rules}
 use Rattle.std.proofs.lemmas.List.{same_lists, places}
 use Rattle.store.proofs.Passes.{insert_passes}
 use Rattle.store.specs.Edits.{after_insert, insert_check, inserted_at, unless}

@@ -1,3 +1,3 @@
 pub mod Appended
 pub mod Areas
-pub mod Summed
+pub mod Runs

@@ -1,3 +1,4 @@
 pub mod Corrects
-pub mod Summaries
+pub mod Replies
+pub mod Runs
 pub mod Whole

@@ -1,7 +1,8 @@
-// Correcting a text over any store: loading it, doing a list of calls on a session, and what stands at
-// the end. Everything here is generic, and proved once from what the trait says of a store.
+// Correcting a text over any store: loading it, doing a list of calls, and reading it out again.
+// Everything here is generic, and proved once from what the trait says of a store.
 #![tactic(auto)]
 
+pub mod calls;
 pub mod correct;
-mod summaries;
+mod run;
 mod whole;

@@ -1,10 +1,8 @@
-// A whole text, into a store and out of a session.
-ghost use Rattle.std.specs.Prelude.{◌≡◌, ◌+◌, ◌≤◌, ◌++◌, length, take, IfOk, OnOk};
+// A whole text, into a store and out of it.
+ghost use Rattle.std.specs.Prelude.{◌≡◌, ◌+◌, ◌≤◌, ◌++◌, length, take, IfOk};
 ghost use Rattle.corrections.specs.Whole.{append_check};
-ghost use Rattle.session.specs.View.{view};
 ghost use Rattle.store.specs.Edits.{answer, unless};
 
-use session::session::Session;
 use std::alloc::{AllocError, Global};
 use store::checks::MAX_COUNT;
 use store::faults::{Fault, Refusal};
@@ -15,7 +13,6 @@ pub(crate) fn append<S: TextStore>(store: &mut S, bytes: &[u8]) -> Result<(), Fa
     ensures value { result ≡ answer (append_check (length (S.text store.old)) (S.room store.old) (length bytes.now)) (length (S.text store.old)) }
     ensures text { S.text store.new ≡ unless (append_check (length (S.text store.old)) (S.room store.old) (length bytes.now)) (S.text store.old ++ bytes.now) (S.text store.old) }
     ensures room { S.room store.new ≡ S.room store.old }
-    ensures done { OnOk result ((S.text store.new ≡ S.text store.old ++ bytes.now) × (length (S.text store.old) + length bytes.now ≤ S.room store.old)) }
 {
     let len = store.len();
     let room = store.capacity();
@@ -41,26 +38,19 @@ fn append_in_parts<S: TextStore>(store: &mut S, bytes: &[u8])
     }
 }
 
-// The whole text of a session. Only memory can be wanting.
-pub(crate) fn contents<S: TextStore>(
-    heap: Global,
-    session: &Session<S>,
-) -> Result<Vec<u8>, AllocError>
-    ensures { IfOk result (λ v. v.items ≡ (view S.TextStore.text S.TextStore.room session.now).text) }
+// The whole text. Only memory can be wanting.
+pub(crate) fn contents<S: TextStore>(heap: Global, store: &S) -> Result<Vec<u8>, AllocError>
+    ensures { IfOk result (λ v. v.items ≡ S.text store.now) }
 {
-    first_bytes(heap, session, session.len())
+    first_bytes(heap, store, store.len())
 }
 
-fn first_bytes<S: TextStore>(
-    heap: Global,
-    session: &Session<S>,
-    n: usize,
-) -> Result<Vec<u8>, AllocError>
-    requires { n ≤ length (view S.TextStore.text S.TextStore.room session.now).text }
-    ensures front { IfOk result (λ v. v.items ≡ take n (view S.TextStore.text S.TextStore.room session.now).text) }
-    ensures whole { n ≡ length (view S.TextStore.text S.TextStore.room session.now).text → IfOk result (λ v. v.items ≡ (view S.TextStore.text S.TextStore.room session.now).text) }
+fn first_bytes<S: TextStore>(heap: Global, store: &S, n: usize) -> Result<Vec<u8>, AllocError>
+    requires { n ≤ length (S.text store.now) }
+    ensures front { IfOk result (λ v. v.items ≡ take n (S.text store.now)) }
+    ensures whole { n ≡ length (S.text store.now) → IfOk result (λ v. v.items ≡ S.text store.now) }
 {
     let mut area = vec![in heap; 0; n]?;
-    let _ = session.copy(0, n, &mut area);
+    let _ = store.copy(0, n, &mut area);
     Ok(area)
 }

@@ -1,5 +1,3 @@
-pub mod Blanked
 pub mod Listing
 pub mod Misread
-pub mod Quoted
 pub mod RoundTrip

@@ -1,54 +1,60 @@
 -- Lines, and lists of them, one more.
-use Rattle.std.proofs.Common.{◌≡◌, ℕ, ◌+◌, ◌-◌, ◌<◌, ◌≤◌, List, [], ◌∷◌, ◌++◌, map, length, get_or, take, drop, sym, refl, ap, ◌∙◌, arith}
-use Rattle.std.proofs.lemmas.List.{append_assoc, append-nil, drop_all, drop_more, map_push, take_all, take_more, take_rest}
-use Rattle.std.proofs.lemmas.Bool.{eq-eqb, ne_eqb}
+use Rattle.std.specs.List.{IsFirstMatchOrLen}
+use Rattle.std.specs.Bool.{MatchBool}
+use Rattle.std.proofs.Common.{Bool, cond, Err, eqb, true, false, suc, length-append, ◌≡◌, ℕ, ◌+◌, ◌<◌, ◌≤◌, List, [], ◌∷◌, ◌++◌, map, length, get_or, sym, refl, ap, ◌∙◌, arith}
+use Rattle.std.proofs.lemmas.List.{get_or_append_left, get_or_at, append_assoc, append-nil, map_push}
+use Rattle.std.proofs.lemmas.Bool.{eqb-true}
 use Rattle.corrections.specs.declared.calls.Call.{Call}
 use Rattle.call_list.specs.Lines.{Said, said_by}
-use Rattle.call_list.specs.Lists.{Listed, all, stops, joined, lines_of, listed, onto}
+use Rattle.call_list.specs.declared.expected.Unread.{Unread}
+use Rattle.call_list.specs.declared.expected.Unread.TheVariants.{Malformed, NoMemory}
+use Rattle.call_list.specs.declared.reading.CallList.{CallList}
+use Rattle.call_list.specs.Lists.{Adds, Listed, Lists, all, at_line, held, stops, joined, lines_of, listed, onto}
 
--- Bytes of a line, none of them its end.
-abbrev pub onto_all : List ℕ → List (List ℕ) → List (List ℕ)
-onto_all [] ls = ls
-onto_all (b ∷ bs) ls = onto b (onto_all bs ls)
+-- The calls of a text that is still to be split into lines; none, once all of it was.
+abbrev pub to_come : ℕ → Bool → List ℕ → Listed
+to_come n done rest = cond done (all [] []) (listed n (lines_of rest))
 
-onto_push : (bs : List ℕ) (b : ℕ) (ls : List (List ℕ)) → onto_all (bs ++ (b ∷ [])) ls ≡ onto_all bs (onto b ls)
-onto_push [] b ls = refl
-onto_push (a ∷ bs) b ls = ap (onto a) (onto_push bs b ls)
+-- None of the bytes ends a line.
+abbrev Endless : List ℕ → Type 0
+Endless x = (k d : ℕ) → k < length x → eqb (get_or x k d) 10 ≡ false
 
-onto_line : (bs l : List ℕ) (ls : List (List ℕ)) → onto_all bs (l ∷ ls) ≡ (bs ++ l) ∷ ls
-onto_line [] l ls = refl
-onto_line (b ∷ bs) l ls = ap (onto b) (onto_line bs l ls)
+line_before : (x r : List ℕ) → Endless x → lines_of (x ++ (10 ∷ r)) ≡ x ∷ lines_of r
+line_before [] r h = refl
+line_before (b ∷ x) r h = rw (h 0 0 (omega arith)) (ap (onto b) (line_before x r (λ k d lt. h (suc k) d (omega arith))))
 
-onto_last : (b : ℕ) (bs : List ℕ) → onto_all (b ∷ bs) [] ≡ (b ∷ bs) ∷ []
-onto_last b [] = refl
-onto_last b (a ∷ bs) = ap (onto b) (onto_last a bs)
+only_line : (b : ℕ) (x : List ℕ) → Endless (b ∷ x) → lines_of (b ∷ x) ≡ (b ∷ x) ∷ []
+only_line b [] h = rw (h 0 0 (omega arith)) refl
+only_line b (a ∷ x) h = rw (h 0 0 (omega arith)) (ap (onto b) (only_line a x (λ k d lt. h (suc k) d (omega arith))))
 
-module _ (xs : List ℕ) (i : ℕ) (lt : i < length xs) (so_far : lines_of xs ≡ onto_all (take i xs) (lines_of (drop i xs))) where
-  here : lines_of xs ≡ onto_all (take i xs) (lines_of (get_or xs i 0 ∷ drop (i + 1) xs))
-  here = so_far ∙ ap (λ x. onto_all (take i xs) (lines_of x)) (drop_more xs i 0 lt)
+last_line : (n : ℕ) (x : List ℕ) → Endless x → listed n (lines_of x) ≡ at_line (n + 1) x (all [] [])
+last_line n [] h = refl
+last_line n (b ∷ x) h = ap (listed n) (only_line b x h)
 
-  pub line_more : (get_or xs i 0 ≡ 10 → ⊥) → lines_of xs ≡ onto_all (take (i + 1) xs) (lines_of (drop (i + 1) xs))
-  line_more other =
-      here ∙ (rw (ne_eqb (get_or xs i 0) 10 other) (sym (onto_push (take i xs) (get_or xs i 0) (lines_of (drop (i + 1) xs)))))
-      ∙ ap (λ x. onto_all x (lines_of (drop (i + 1) xs))) (sym (take_more xs i 0 lt))
+-- One line is split off, up to its end or up to the end of the text.
+abbrev pub SplitOff : Bool → List ℕ → List ℕ → List ℕ → Type 0
+SplitOff done rest x r = MatchBool done (rest ≡ x) ((y : ℕ) × (rest ≡ x ++ (y ∷ r)))
 
-  pub line_ends : get_or xs i 0 ≡ 10 → lines_of xs ≡ take (i - 0) xs ∷ lines_of (take (length xs - (i + 1)) (drop (i + 1) xs))
-  line_ends end =
-      let z : i - 0 ≡ i = omega arith in
-      here ∙ (rw (eq-eqb (get_or xs i 0) 10 end) (onto_line (take i xs) [] (lines_of (drop (i + 1) xs))))
-      ∙ ap (λ x. x ∷ lines_of (drop (i + 1) xs)) (append-nil (take i xs) ∙ ap (λ k. take k xs) (sym z))
-      ∙ ap (λ x. take (i - 0) xs ∷ lines_of x) (sym (take_rest xs (i + 1)))
+pub next_line : (n : ℕ) (before done : Bool) (rest x r : List ℕ) → before ≡ false → SplitOff done rest x r → IsFirstMatchOrLen (λ b. eqb b 10) rest (length x) → to_come n before rest ≡ at_line (n + 1) x (to_come (n + 1) done r)
+next_line n before true rest x r going is first = rw going (ap (λ z. listed n (lines_of z)) is ∙ last_line n x (λ k d lt. rw is at (first.0 k d (omega arith) lt)))
+next_line n before false rest x r going (y, is) first =
+    let inner : Endless x = λ k d lt. sym (ap (λ b. eqb b 10) (get_or_append_left x (y ∷ r) d k lt)) ∙ (rw is at (first.0 k d (omega arith) lt)) in
+    let longer : length x < length rest = let e = ap length is ∙ length-append x (y ∷ r) in omega arith in
+    let ten : y ≡ 10 = eqb-true y 10 (sym (ap (λ b. eqb b 10) (get_or_at x y r 0 (length x) refl)) ∙ (rw is at (first.1 longer 0))) in
+    rw going
+    (ap (λ z. listed n (lines_of z)) (is ∙ ap (λ z. x ++ (z ∷ r)) ten)
+    ∙ ap (listed n) (line_before x r inner))
 
-last_line : (xs : List ℕ) → 0 < length xs → onto_all xs [] ≡ xs ∷ []
-last_line [] some = absurd (omega arith)
-last_line (b ∷ bs) some = onto_last b bs
+pub less_to_come : (n len : ℕ) (before done : Bool) (rest x r : List ℕ) → before ≡ false → SplitOff done rest x r → cond before 0 (n + length rest) ≤ len → cond done 0 ((n + 1) + length r) ≤ len
+less_to_come n len before true rest x r going is within = omega arith
+less_to_come n len before false rest x r going (y, is) within =
+    let e = ap length is ∙ length-append x (y ∷ r) in
+    let within' = rw going at within in
+    omega arith
 
-pub line_all : (xs : List ℕ) (i : ℕ) → 0 < length xs → length xs ≤ i → lines_of xs ≡ onto_all (take i xs) (lines_of (drop i xs)) → lines_of xs ≡ take (length xs) xs ∷ lines_of (drop (length xs) xs)
-line_all xs i some past so_far =
-    let whole = take_all (length xs) xs (omega arith) in
-    let none = drop_all (length xs) xs (omega arith) in
-    so_far ∙ ap (λ x. onto_all x (lines_of (drop i xs))) (take_all i xs past) ∙ ap (λ x. onto_all xs (lines_of x)) (drop_all i xs past)
-    ∙ last_line xs some ∙ ap (λ x. x ∷ []) (sym whole) ∙ ap (λ x. take (length xs) xs ∷ lines_of x) (sym none)
+pub stops_here : (u : Unread) (v w : CallList) (n : ℕ) (l t : List ℕ) (rest : Listed) → listed 0 (lines_of t) ≡ held v (at_line n l rest) → Adds (Err u) v n l w → Lists (Err u) t
+stops_here (Malformed m e) v w n l t rest so_far adds = so_far ∙ adds rest
+stops_here NoMemory v w n l t rest so_far adds = tt
 
 -- Calls that are held.
 joined-joined : (ns ms : List ℕ) (ss ts : List Said) (l : Listed) → joined ns ss (joined ms ts l) ≡ joined (ns ++ ms) (ss ++ ts) l

@@ -1,13 +1,10 @@
 -- The law of the format: a call in its plain form, read as a line, is that call again. Assumes nothing.
-use Rattle.std.specs.Prelude.{◌≡◌, ℕ, ◌^◌, ◌<◌, List, [], ◌∷◌, vec_items}
+use Rattle.std.specs.Prelude.{◌≡◌, ◌^◌, ◌<◌, vec_items}
 use Rattle.corrections.specs.declared.calls.Call.{Call}
 use Rattle.corrections.specs.declared.calls.Call.TheVariants.{Insert, Delete, Length, Capacity, ByteAt, Copy}
-use Rattle.call_list.specs.Forms.{call_form}
+use Rattle.line_parts.specs.Quotes.{Bytes}
+use Rattle.corrections.specs.Forms.{call_form}
 use Rattle.call_list.specs.Lines.{call_line, reads, said_by}
-
-abbrev pub Bytes : List ℕ → Type 0
-Bytes [] = Unit {0}
-Bytes (b ∷ bs) = (b < 256) × Bytes bs
 
 -- The numbers of a call have 64 bits, and its bytes 8, as the machine's do.
 abbrev pub Sized : Call → Type 0

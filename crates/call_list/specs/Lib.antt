@@ -1,10 +1,6 @@
 pub mod Again
-pub mod Blanks
 pub mod Forms
 pub mod Lines
 pub mod Lists
 pub mod Misreads
-pub mod Numbers
 pub mod Parts
-pub mod Quotes
-pub mod Unquotes

@@ -10,11 +10,10 @@ use Rattle.call_list.specs.declared.expected.Expected.TheVariants as wanted
 use Rattle.call_list.specs.declared.expected.Misread.{Misread}
 use Rattle.call_list.specs.declared.names.Name.{Name}
 use Rattle.call_list.specs.declared.names.Name.TheVariants as name
-use Rattle.call_list.specs.declared.quoting.Quoting.TheVariants.{Plain}
-use Rattle.call_list.specs.Blanks.{past_blanks, first_word, behind_word}
-use Rattle.call_list.specs.Misreads.{Misreads}
-use Rattle.call_list.specs.Numbers.{read_number}
-use Rattle.call_list.specs.Unquotes.{Unquoted, closed, malformed, unquoted}
+use Rattle.line_parts.specs.Blanks.{past_blanks, first_word, behind_word}
+use Rattle.call_list.specs.Misreads.{Misreads, wanted_in_quotes}
+use Rattle.line_parts.specs.Numbers.{read_number}
+use Rattle.line_parts.specs.Unquotes.{Unquoted, closed, malformed, read_quoted}
 
 -- A call by what it says: of bytes, the bytes themselves and not the memory that holds them.
 pub data Said : Type 0 where
@@ -48,11 +47,11 @@ with_number of l k = given_number (read_number (first_word (past_blanks l))) of 
 
 abbrev pub given_bytes : Unquoted → List ℕ → (List ℕ → List ℕ → Line) → Line
 given_bytes (closed bs n) rest k = k bs (drop n rest)
-given_bytes (malformed e) rest k = expects e
+given_bytes (malformed e) rest k = expects (wanted_in_quotes e)
 
 abbrev pub opened : List ℕ → (List ℕ → List ℕ → Line) → Line
 opened [] k = expects wanted.Bytes
-opened (b ∷ rest) k = cond (b == 34) (given_bytes (unquoted Plain rest) rest k) (expects wanted.Bytes)
+opened (b ∷ rest) k = cond (b == 34) (given_bytes (read_quoted rest) rest k) (expects wanted.Bytes)
 
 -- Bytes in double quotes come next; what stands behind them is read on.
 abbrev pub with_bytes : List ℕ → (List ℕ → List ℕ → Line) → Line
@@ -69,11 +68,15 @@ at_end l s = ended (past_blanks l) s
 abbrev pub insert_line : List ℕ → Line
 insert_line l = with_number Place l (λ p m. with_bytes m (λ bs n. at_end n (insert p bs)))
 
+-- A place and a count make the call.
+abbrev pub with_place_and_count : List ℕ → (ℕ → ℕ → Said) → Line
+with_place_and_count l make = with_number Place l (λ p m. with_number Count m (λ n o. at_end o (make p n)))
+
 abbrev pub delete_line : List ℕ → Line
-delete_line l = with_number Place l (λ p m. with_number Count m (λ n o. at_end o (delete p n)))
+delete_line l = with_place_and_count l delete
 
 abbrev pub copy_line : List ℕ → Line
-copy_line l = with_number Place l (λ p m. with_number Count m (λ n o. at_end o (copy p n)))
+copy_line l = with_place_and_count l copy
 
 abbrev pub byte_line : List ℕ → Line
 byte_line l = with_number Place l (λ p m. at_end m (byte_asked p))
@@ -87,6 +90,11 @@ name_of w =
     (cond (bytes_eq w (codes "capacity")) (Some name.Capacity)
     (cond (bytes_eq w (codes "byte")) (Some name.Byte)
     (cond (bytes_eq w (codes "copy")) (Some name.Copy) None)))))
+
+-- A word was read as the name of a call, or is none.
+abbrev pub Names : Result Name Expected → List ℕ → Type 0
+Names (Ok n) w = name_of w ≡ Some n
+Names (Err e) w = (name_of w ≡ None) × (e ≡ wanted.Call)
 
 abbrev pub named_line : Option Name → List ℕ → Line
 named_line None rest = expects wanted.Call

@@ -5,7 +5,7 @@ use Rattle.call_list.specs.declared.expected.Expected.{Expected}
 use Rattle.call_list.specs.declared.expected.Unread.{Unread}
 use Rattle.call_list.specs.declared.expected.Unread.TheVariants.{Malformed, NoMemory}
 use Rattle.call_list.specs.declared.reading.CallList.{CallList}
-use Rattle.call_list.specs.Blanks.{past_blanks}
+use Rattle.line_parts.specs.Blanks.{past_blanks}
 use Rattle.call_list.specs.Lines.{Line, Said, call_line, expects, reads, said_by}
 
 -- The lines of a text, without their ends; one that ends in a line's end has no line behind it.

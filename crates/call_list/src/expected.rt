@@ -1,9 +1,10 @@
 // What a line of a list should have had, where it cannot be read.
 ghost use Rattle.std.specs.Prelude.{◌≡◌};
-ghost use Rattle.call_list.specs.Misreads.{unread_at};
+ghost use Rattle.call_list.specs.Misreads.{misread_by, unread_at, wanted_in_quotes};
 ghost use Rattle.call_list.specs.declared.expected.Unread.TheVariants as unread;
 ghost use Rattle.call_list.specs.declared.expected.Misread.TheVariants.{Malformed, NoMemory};
 
+use line_parts::{InQuotes, Misquoted};
 use std::alloc::{AllocError, AllocFailed};
 use std::fmt;
 
@@ -49,12 +50,20 @@ impl fmt::Display for Expected {
                 "expected a {of}, a number from 0 to 18446744073709551615"
             ),
             Expected::Bytes => write!(f, "expected bytes in double quotes"),
-            Expected::PlainByte => write!(
-                f,
-                "expected a byte from 0x20 to 0x7e or one of the escapes \\\\ \\\" \\n \\t \\xHH"
-            ),
-            Expected::ClosingQuote => write!(f, "expected a closing double quote"),
+            Expected::PlainByte => write!(f, "expected {}", InQuotes::PlainByte),
+            Expected::ClosingQuote => write!(f, "expected {}", InQuotes::ClosingQuote),
             Expected::End => write!(f, "expected the end of the line"),
+        }
+    }
+}
+
+impl From<InQuotes> for Expected {
+    ghost from_gives = { λ q e. e ≡ wanted_in_quotes q };
+
+    fn from(wanted: InQuotes) -> Expected {
+        match wanted {
+            InQuotes::PlainByte => Expected::PlainByte,
+            InQuotes::ClosingQuote => Expected::ClosingQuote,
         }
     }
 }
@@ -77,6 +86,7 @@ impl fmt::Display for Unread {
 }
 
 // Why a line was not read; its number is not known yet.
+// Not generic with `Misquoted`: no From can join two forms of a foreign type, so `?` would fail.
 #[derive(Clone, Copy)]
 pub(crate) enum Misread {
     Malformed(Expected),
@@ -102,19 +112,14 @@ impl From<Expected> for Misread {
     }
 }
 
-impl From<AllocError> for Misread {
-    ghost from_gives = { λ _ m. m ≡ NoMemory };
+impl From<Misquoted> for Misread {
+    ghost from_gives = { λ q m. m ≡ misread_by q };
 
-    fn from(_error: AllocError) -> Misread {
-        Misread::NoMemory
-    }
-}
-
-impl<T: Drop> From<AllocFailed<T>> for Misread {
-    ghost from_gives = { λ _ m. m ≡ NoMemory };
-
-    fn from(_refused: AllocFailed<T>) -> Misread {
-        Misread::NoMemory
+    fn from(misquoted: Misquoted) -> Misread {
+        match misquoted {
+            Misquoted::Malformed(wanted) => Misread::Malformed(Expected::from(wanted)),
+            Misquoted::NoMemory => Misread::NoMemory,
+        }
     }
 }
 

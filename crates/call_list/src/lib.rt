@@ -4,13 +4,12 @@
 mod again;
 mod expected;
 mod names;
-mod quoting;
+mod parts;
 mod reading;
 mod showing;
-mod words;
 
 pub use again::plain_forms_read_back;
 pub use expected::{Argument, Expected, Unread};
+pub use line_parts::read_number;
 pub use reading::{CallList, read_list};
 pub use showing::{line_text, text_line};
-pub use words::read_number;

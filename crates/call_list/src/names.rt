@@ -1,7 +1,7 @@
 // The names of the calls.
-ghost use Rattle.std.specs.Prelude.{◌≡◌};
-ghost use Rattle.call_list.specs.Lines.{name_of};
-ghost use Rattle.std.specs.Str.{bytes_eq};
+ghost use Rattle.call_list.specs.Lines.{Names};
+
+use crate::expected::Expected;
 
 #[derive(Clone, Copy)]
 pub(crate) enum Name {
@@ -13,28 +13,20 @@ pub(crate) enum Name {
     Copy,
 }
 
-pub(crate) fn call_name(word: &[u8]) -> Option<Name>
-    ensures { result ≡ name_of word.now }
-{
-    if is(word, "insert") {
-        Some(Name::Insert)
-    } else if is(word, "delete") {
-        Some(Name::Delete)
-    } else if is(word, "length") {
-        Some(Name::Length)
-    } else if is(word, "capacity") {
-        Some(Name::Capacity)
-    } else if is(word, "byte") {
-        Some(Name::Byte)
-    } else if is(word, "copy") {
-        Some(Name::Copy)
-    } else {
-        None
-    }
-}
+impl<'a> TryFrom<&'a [u8]> for Name {
+    type Error = Expected;
 
-fn is(word: &[u8], name: &str) -> bool
-    ensures { result ≡ bytes_eq word.now name.now }
-{
-    word == name.as_bytes()
+    ghost try_from_gives = { λ word r. Names r word.now };
+
+    fn try_from(word: &'a [u8]) -> Result<Name, Expected> {
+        match word {
+            b"insert" => Ok(Name::Insert),
+            b"delete" => Ok(Name::Delete),
+            b"length" => Ok(Name::Length),
+            b"capacity" => Ok(Name::Capacity),
+            b"byte" => Ok(Name::Byte),
+            b"copy" => Ok(Name::Copy),
+            _ => Err(Expected::Call),
+        }
+    }
 }

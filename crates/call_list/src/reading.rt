@@ -1,16 +1,18 @@
 // Reading a list of calls: one call to a line; blank lines, and lines that begin with #, are passed
 // over. The whole list is read, or nothing of it.
-ghost use Rattle.std.specs.Prelude.{◌≡◌, ◌<◌, ◌∷◌, length};
-ghost use Rattle.call_list.specs.Lists.{Adds, AddsCall, Lists, lines_of, passed_over};
+ghost use Rattle.std.specs.Prelude.{◌≡◌};
+ghost use Rattle.call_list.specs.Lists.{Adds, AddsCall, Lists, passed_over};
 ghost use Rattle.call_list.specs.Lines.{Reads, ReadsIn, at_end, byte_line, call_line, copy_line, delete_line, insert_line, said_by};
 
 use crate::expected::{Argument, Expected, Misread, Unread};
-use crate::names::{Name, call_name};
-use crate::words::{end, number, past_blanks, quoted, word};
+use crate::names::Name;
+use crate::parts::{end, number, place_and_count, quoted};
 use corrections::calls::Call;
+use line_parts::{past_blanks, word};
 use std::alloc::Global;
 
 // The calls of a list, and the number of the line on which each stands.
+// Two lists, not one of pairs: `correct` takes the calls as one slice, which pairs could not lend.
 #[derive(Drop)]
 pub struct CallList {
     pub calls: Vec<Call>,
@@ -24,13 +26,9 @@ pub fn read_list(heap: Global, list: &[u8]) -> Result<CallList, Unread>
         calls: Vec::new(heap),
         lines: Vec::new(heap),
     };
-    let mut rest = list;
-    let mut number = 0;
-    while !rest.is_empty() {
-        let (line, more) = first_line(rest);
-        number += 1;
-        read.add_line(heap, number, line)?;
-        rest = more;
+    // Behind the last line's end a blank line is read, which is passed over.
+    for (index, line) in list.split(|b| *b == b'\n').enumerate() {
+        read.add_line(heap, index + 1, line)?;
     }
     Ok(read)
 }
@@ -43,12 +41,11 @@ impl CallList {
         if is_passed_over(line) {
             return Ok(());
         }
-        match read_call(heap, line) {
-            Ok(call) => self.add_call(number, call),
-            Err(why) => Err(why.at(number)),
-        }
+        let call = read_call(heap, line).map_err(|why| why.at(number))?;
+        self.add_call(number, call)
     }
 
+    #[tactic(auto, using(crate::proofs::Listing::held_more))]
     fn add_call(&mut self, number: usize, call: Call) -> Result<(), Unread>
         ensures { AddsCall result self.old number (said_by call) self.new }
     {
@@ -56,20 +53,6 @@ impl CallList {
         self.lines.push(number)?;
         Ok(())
     }
-}
-
-// A line without its end, and what stands behind it.
-fn first_line(list: &[u8]) -> (&[u8], &[u8])
-    requires { 0 < length list.now }
-    ensures line { lines_of list.now ≡ result.0.now ∷ lines_of result.1.now }
-    ensures less { length result.1.now < length list.now }
-{
-    for (i, b) in list.iter().enumerate() {
-        if *b == b'\n' {
-            return (&list[0..i], &list[i + 1..]);
-        }
-    }
-    list.split_at(list.len())
 }
 
 fn is_passed_over(line: &[u8]) -> bool
@@ -82,14 +65,13 @@ fn read_call(heap: Global, line: &[u8]) -> Result<Call, Misread>
     ensures { ReadsIn result (call_line line.now) }
 {
     let (name, rest) = word(line);
-    match call_name(name) {
-        Some(Name::Insert) => read_insert(heap, rest),
-        Some(Name::Delete) => Ok(read_delete(rest)?),
-        Some(Name::Length) => Ok(read_plain(Call::Length, rest)?),
-        Some(Name::Capacity) => Ok(read_plain(Call::Capacity, rest)?),
-        Some(Name::Byte) => Ok(read_byte(rest)?),
-        Some(Name::Copy) => Ok(read_copy(rest)?),
-        None => Err(Misread::Malformed(Expected::Call)),
+    match Name::try_from(name)? {
+        Name::Insert => read_insert(heap, rest),
+        Name::Delete => Ok(read_delete(rest)?),
+        Name::Length => Ok(read_plain(Call::Length, rest)?),
+        Name::Capacity => Ok(read_plain(Call::Capacity, rest)?),
+        Name::Byte => Ok(read_byte(rest)?),
+        Name::Copy => Ok(read_copy(rest)?),
     }
 }
 
@@ -105,18 +87,14 @@ fn read_insert(heap: Global, rest: &[u8]) -> Result<Call, Misread>
 fn read_delete(rest: &[u8]) -> Result<Call, Expected>
     ensures { Reads result (delete_line rest.now) }
 {
-    let (place, rest) = number(rest, Argument::Place)?;
-    let (count, rest) = number(rest, Argument::Count)?;
-    end(rest)?;
+    let (place, count) = place_and_count(rest)?;
     Ok(Call::Delete { place, count })
 }
 
 fn read_copy(rest: &[u8]) -> Result<Call, Expected>
     ensures { Reads result (copy_line rest.now) }
 {
-    let (place, rest) = number(rest, Argument::Place)?;
-    let (count, rest) = number(rest, Argument::Count)?;
-    end(rest)?;
+    let (place, count) = place_and_count(rest)?;
     Ok(Call::Copy { place, count })
 }
 

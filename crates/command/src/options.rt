@@ -1,6 +1,6 @@
 // What the words of a command line ask for.
 ghost use Rattle.std.specs.Prelude.{◌≡◌, ◌≤◌, IfOk, Some};
-ghost use Rattle.call_list.specs.Numbers.{read_number};
+ghost use Rattle.line_parts.specs.Numbers.{read_number};
 ghost use Rattle.command.specs.Options.{make_name};
 
 use crate::help::{HELP, VERSION};
@@ -26,29 +26,59 @@ pub(crate) struct RunOptions<'a> {
     pub(crate) calls: Option<&'a str>,
 }
 
+impl Default for RunOptions<'_> {
+    fn default() -> Self {
+        RunOptions {
+            make: Make::Gap,
+            capacity: MAX_CAPACITY,
+            text: None,
+            out: None,
+            calls: None,
+        }
+    }
+}
+
+impl<'a> RunOptions<'a> {
+    fn set(&mut self, flag: Flag, value: &'a str) -> Result<(), Problem<'a>> {
+        match flag {
+            Flag::Store => self.make = Make::try_from(value)?,
+            Flag::Capacity => self.capacity = capacity_of(value)?,
+            Flag::Text => self.text = Some(value),
+            Flag::Out => self.out = Some(value),
+        }
+        Ok(())
+    }
+
+    fn set_list(&mut self, word: &'a str) -> Result<(), Problem<'a>> {
+        if word.starts_with("-") {
+            return Err(Problem::UnknownOption(word));
+        }
+        if self.calls.is_some() {
+            return Err(Problem::SecondList(word));
+        }
+        self.calls = Some(word);
+        Ok(())
+    }
+}
+
 pub(crate) fn parse<'a>(words: &'a [String]) -> Result<Command<'a>, Problem<'a>> {
-    let Some(first) = words.first() else {
+    let [first, rest @ ..] = words else {
         return Err(Problem::NoCommand);
     };
     match first.as_str() {
         "--help" | "-h" | "help" => Ok(Command::Show(HELP)),
         "--version" => Ok(Command::Show(VERSION)),
-        "run" if asks_for_help(&words[1..]) => Ok(Command::Show(HELP)),
-        "run" => Ok(Command::Run(parse_run(&words[1..])?)),
+        "run" if asks_for_help(rest) => Ok(Command::Show(HELP)),
+        "run" => Ok(Command::Run(parse_run(rest)?)),
         other => Err(Problem::UnknownCommand(other)),
     }
 }
 
 fn asks_for_help(words: &[String]) -> bool {
-    for word in words {
-        if word.as_str() == "--help" {
-            return true;
-        }
-    }
-    false
+    words.iter().any(|word| word.as_str() == "--help")
 }
 
-// An option whose value is the next word, with the word that named it.
+// An option whose value is the next word.
 #[derive(Clone, Copy)]
 enum Flag {
     Store,
@@ -57,88 +87,52 @@ enum Flag {
     Out,
 }
 
-fn flag_named(word: &str) -> Option<Flag> {
-    match word {
-        "--store" => Some(Flag::Store),
-        "--capacity" => Some(Flag::Capacity),
-        "--text" => Some(Flag::Text),
-        "--out" => Some(Flag::Out),
-        _ => None,
+impl Flag {
+    fn named(word: &str) -> Option<Flag> {
+        match word {
+            "--store" => Some(Flag::Store),
+            "--capacity" => Some(Flag::Capacity),
+            "--text" => Some(Flag::Text),
+            "--out" => Some(Flag::Out),
+            _ => None,
+        }
     }
 }
 
 fn parse_run<'a>(words: &'a [String]) -> Result<RunOptions<'a>, Problem<'a>> {
-    let mut options = RunOptions {
-        make: Make::Gap,
-        capacity: MAX_CAPACITY,
-        text: None,
-        out: None,
-        calls: None,
-    };
-    let mut waiting: Option<(Flag, &'a str)> = None;
-    for word in words {
+    let mut options = RunOptions::default();
+    let mut words = words.iter();
+    while let Some(word) = words.next() {
         let word = word.as_str();
-        match waiting {
-            Some((flag, _)) => {
-                options = with_value(options, flag, word)?;
-                waiting = None;
+        match Flag::named(word) {
+            Some(flag) => {
+                let value = words.next().ok_or(Problem::NoValue(word))?;
+                options.set(flag, value.as_str())?;
             }
-            None => match flag_named(word) {
-                Some(flag) => waiting = Some((flag, word)),
-                None => options = with_list(options, word)?,
-            },
+            None => options.set_list(word)?,
         }
     }
-    match waiting {
-        Some((_, word)) => Err(Problem::NoValue(word)),
-        None => Ok(options),
-    }
-}
-
-fn with_value<'a>(
-    options: RunOptions<'a>,
-    flag: Flag,
-    word: &'a str,
-) -> Result<RunOptions<'a>, Problem<'a>> {
-    let mut options = options;
-    match flag {
-        Flag::Store => options.make = make_named(word)?,
-        Flag::Capacity => options.capacity = capacity_of(word)?,
-        Flag::Text => options.text = Some(word),
-        Flag::Out => options.out = Some(word),
-    }
     Ok(options)
 }
 
-fn with_list<'a>(options: RunOptions<'a>, word: &'a str) -> Result<RunOptions<'a>, Problem<'a>> {
-    if word.starts_with("-") {
-        return Err(Problem::UnknownOption(word));
-    }
-    if options.calls.is_some() {
-        return Err(Problem::SecondList(word));
-    }
-    let mut options = options;
-    options.calls = Some(word);
-    Ok(options)
-}
+impl<'a> TryFrom<&'a str> for Make {
+    type Error = Problem<'a>;
 
-fn make_named(word: &str) -> Result<Make, Problem<'_>>
-    ensures { IfOk result (λ m. word.now ≡ make_name m) }
-{
-    if word == "gap" {
-        Ok(Make::Gap)
-    } else if word == "pieces" {
-        Ok(Make::Pieces)
-    } else {
-        Err(Problem::NoStore(word))
+    ghost try_from_gives = { λ word r. IfOk r (λ m. word.now ≡ make_name m) };
+
+    fn try_from(word: &'a str) -> Result<Make, Problem<'a>> {
+        match word {
+            "gap" => Ok(Make::Gap),
+            "pieces" => Ok(Make::Pieces),
+            _ => Err(Problem::NoStore(word)),
+        }
     }
 }
 
 fn capacity_of(word: &str) -> Result<usize, Problem<'_>>
     ensures { IfOk result (λ n. (read_number word.now ≡ Some n) × (n ≤ 32768)) }
 {
-    match read_number(word.as_bytes()) {
-        Some(n) if n <= MAX_CAPACITY => Ok(n),
-        _ => Err(Problem::NoCapacity(word)),
-    }
+    read_number(word.as_bytes())
+        .filter(|n| *n <= MAX_CAPACITY)
+        .ok_or(Problem::NoCapacity(word))
 }

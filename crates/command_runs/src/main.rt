@@ -23,8 +23,8 @@ fn carry_out(rt: &HostRuntime, line: &str) -> io::Result<()> {
     for word in line.split_whitespace() {
         words.push(String::from_str(heap, word)?)?;
     }
-    match run(rt, &words) {
-        Ok(()) => Ok(()),
-        Err(problem) => println!(rt; "problem: {problem}"),
+    if let Err(problem) = run(rt, &words) {
+        println!(rt; "problem: {problem}")?;
     }
+    Ok(())
 }

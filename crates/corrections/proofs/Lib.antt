@@ -1,3 +1,2 @@
 pub mod Appended
-pub mod Areas
 pub mod Runs

@@ -1,4 +1,5 @@
 pub mod Corrects
+pub mod Forms
 pub mod Replies
 pub mod Runs
 pub mod Whole

@@ -1,6 +1,7 @@
 -- What each call answers and leaves, over a text and a capacity. Assumes nothing.
 use Rattle.std.specs.Prelude.{ℕ, List, length, take, drop, Ok, Err, vec_items, Option, Result}
 use Rattle.store.specs.declared.faults.Fault.{Fault}
+use Rattle.store.specs.declared.faults.Refusal.{Refusal}
 use Rattle.store.specs.Edits.{answer, insert_check, delete_check, copy_check, byte_at, after_insert, after_delete}
 use Rattle.corrections.specs.declared.calls.Answer.{Answer}
 use Rattle.corrections.specs.declared.calls.Answer.TheVariants.{Done, Number, Byte, Bytes, Refused}
@@ -13,7 +14,7 @@ pub data Reply : Type 0 where
   number : ℕ → Reply
   byte : Option ℕ → Reply
   bytes : List ℕ → Reply
-  refusal : Fault → Reply
+  refusal : Fault Refusal → Reply
 
 abbrev pub reply_of : Answer → Reply
 reply_of Done = done
@@ -23,7 +24,7 @@ reply_of (Bytes v) = bytes (vec_items v)
 reply_of (Refused f) = refusal f
 
 -- A refused call says its fault, and an accepted one what it has to say.
-abbrev pub outcome : Result (Unit {0}) Fault → Reply → Reply
+abbrev pub outcome : Result (Unit {0}) (Fault Refusal) → Reply → Reply
 outcome (Ok u) said = said
 outcome (Err f) said = refusal f
 

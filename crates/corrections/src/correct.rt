@@ -7,7 +7,7 @@ use crate::calls::{Answer, Call};
 use crate::run::perform_all;
 use crate::whole::{append, contents};
 use std::alloc::{AllocError, Global};
-use store::faults::Fault;
+use store::faults::{Fault, Refusal};
 use store::text_store::TextStore;
 
 #[derive(Drop)]
@@ -20,14 +20,14 @@ pub struct Corrected {
 #[derive(Drop)]
 pub enum Trouble {
     // the text to start from does not fit: no call was done
-    TooLong(Fault),
+    TooLong(Fault<Refusal>),
     NoMemory,
 }
 
-impl From<Fault> for Trouble {
+impl From<Fault<Refusal>> for Trouble {
     ghost from_gives = { λ f t. t ≡ TooLong f };
 
-    fn from(fault: Fault) -> Trouble {
+    fn from(fault: Fault<Refusal>) -> Trouble {
         Trouble::TooLong(fault)
     }
 }

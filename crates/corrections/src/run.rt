@@ -6,11 +6,13 @@ ghost use Rattle.corrections.specs.Runs.{Answered, Stopped};
 use crate::calls::{Answer, Call};
 use std::alloc::{AllocError, Global};
 use store::checks::MAX_CAPACITY;
-use store::faults::Fault;
+use store::faults::{Fault, Refusal};
 use store::text_store::TextStore;
 
 // Does the calls in their order, and answers each. Where memory is wanting it stops between two
 // calls, and those before have been done.
+// Not one with the loop over a session: a trait for both, with its laws and two impls, outweighs it.
+#[tactic(auto, using(crate::proofs::Runs::text_none, crate::proofs::Runs::replies_none))]
 pub(crate) fn perform_all<S: TextStore>(
     heap: Global,
     store: &mut S,
@@ -44,13 +46,10 @@ fn perform<S: TextStore>(heap: Global, store: &mut S, call: &Call) -> Result<Ans
     }
 }
 
-fn edit_answer(res: Result<(), Fault>) -> Answer
+fn edit_answer(res: Result<(), Fault<Refusal>>) -> Answer
     ensures { reply_of result ≡ outcome res done }
 {
-    match res {
-        Ok(()) => Answer::Done,
-        Err(fault) => Answer::Refused(fault),
-    }
+    res.map_or_else(Answer::Refused, |()| Answer::Done)
 }
 
 // Copies n bytes from p on. No accepted copy has more than 32,768 bytes, so an area of that many
@@ -59,8 +58,6 @@ fn copy_out<S: TextStore>(heap: Global, store: &S, p: usize, n: usize) -> Result
     ensures { IfOk result (λ a. reply_of a ≡ copy_reply (S.text store.now) p n) }
 {
     let mut area = vec![in heap; 0; n.min(MAX_CAPACITY)]?;
-    match store.copy(p, n, &mut area) {
-        Ok(()) => Ok(Answer::Bytes(area)),
-        Err(fault) => Ok(Answer::Refused(fault)),
-    }
+    let res = store.copy(p, n, &mut area);
+    Ok(res.map_or_else(Answer::Refused, |()| Answer::Bytes(area)))
 }

@@ -4,19 +4,19 @@ ghost use Rattle.corrections.specs.Whole.{append_check};
 ghost use Rattle.store.specs.Edits.{answer, unless};
 
 use std::alloc::{AllocError, Global};
-use store::checks::MAX_COUNT;
-use store::faults::{Fault, Refusal};
+use store::checks::{MAX_COUNT, has_room};
+use store::faults::{Fault, Refusal, Refuses};
 use store::text_store::TextStore;
 
 // Puts bytes of any number behind the text. Where they do not all fit, none is put in.
-pub(crate) fn append<S: TextStore>(store: &mut S, bytes: &[u8]) -> Result<(), Fault>
+pub(crate) fn append<S: TextStore>(store: &mut S, bytes: &[u8]) -> Result<(), Fault<Refusal>>
     ensures value { result ≡ answer (append_check (length (S.text store.old)) (S.room store.old) (length bytes.now)) (length (S.text store.old)) }
     ensures text { S.text store.new ≡ unless (append_check (length (S.text store.old)) (S.room store.old) (length bytes.now)) (S.text store.old ++ bytes.now) (S.text store.old) }
     ensures room { S.room store.new ≡ S.room store.old }
 {
     let len = store.len();
     let room = store.capacity();
-    if len > room || room - len < bytes.len() {
+    if !has_room(len, room, bytes.len()) {
         return Err(Refusal::Capacity.at(len));
     }
     append_in_parts(store, bytes);
@@ -29,12 +29,9 @@ fn append_in_parts<S: TextStore>(store: &mut S, bytes: &[u8])
     ensures text { S.text store.new ≡ S.text store.old ++ bytes.now }
     ensures room { S.room store.new ≡ S.room store.old }
 {
-    let len = store.len();
-    let mut done = 0;
-    while done < bytes.len() {
-        let count = (bytes.len() - done).min(MAX_COUNT);
-        let _ = store.insert(len + done, &bytes[done..done + count]);
-        done += count;
+    for part in bytes.chunks(MAX_COUNT) {
+        let end = store.len();
+        let _ = store.insert(end, part);
     }
 }
 

@@ -2,6 +2,7 @@
 ghost use Rattle.std.specs.Prelude.{◌≤◌, vec_len};
 
 mod edits;
+mod reads;
 pub mod text;
 
 // The text is the memory without the bytes from `gap_start` up to `gap_end`, which are free.

@@ -3,6 +3,5 @@
 #![tactic(auto)]
 
 pub mod buffer;
-mod gap;
 
 pub use buffer::GapBuffer;

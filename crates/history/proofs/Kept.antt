@@ -2,11 +2,10 @@
 use Rattle.std.proofs.Common.{◌≡◌, ℕ, ◌+◌, ◌-◌, ◌≤◌, true, List, [], ◌∷◌, map, length, Some, None, vec_items, Option, sym, refl, ap, ◌∙◌, arith}
 use Rattle.places.specs.declared.faults.Refusal.{Refusal}
 use Rattle.places.specs.DryRun.{EachFits}
-use Rattle.places.specs.Refusals.{answer}
-use Rattle.undo_list.specs.Limits.{unless}
+use Rattle.store.specs.Edits.{answer, unless}
 use Rattle.calls.specs.declared.call.Call.{Call}
 use Rattle.calls.specs.declared.call.Call.TheVariants as call
-use Rattle.calls.specs.Replies.{done}
+use Rattle.calls.specs.Replies.{said, done}
 use Rattle.calls.specs.Said.{said_by}
 use Rattle.session.specs.Calls.{insert_check, insert_world, delete_check, delete_world, set_world, boundary_world, trim_world, protect_world, unprotect_world, narrow_world, widen_world}
 use Rattle.session.specs.World.{World, new_world, inserted, deleted}
@@ -14,7 +13,7 @@ use Rattle.session.proofs.Edited.{insertion_long, deletion_long, length_inserted
 use Rattle.session.proofs.Passed.{insert_passed, delete_passed, insertion_fits, deletion_fits}
 use Rattle.history.specs.Laws.{Coherent, edits_by, is_accepted, RunsKeep}
 use Rattle.history.specs.Runs.{world_after}
-use Rattle.history.specs.Steps.{reply, said, step}
+use Rattle.history.specs.Steps.{reply, step}
 
 -- A check passed, or the call leaves the world.
 either : (check : Option Refusal) (new old : World) → (check ≡ None → Coherent new) → Coherent old → Coherent (unless check new old)

@@ -1,4 +1,3 @@
-pub mod Areas
 pub mod Computed
 pub mod Kept
 pub mod Runs

@@ -1,5 +1,5 @@
 -- One call more. Assumes nothing.
-use Rattle.std.proofs.Common.{◌≡◌, ℕ, ◌+◌, ◌<◌, List, [], ◌∷◌, ◌++◌, map, length, get_or, take, sym, refl, ap, ◌∙◌, subst}
+use Rattle.std.proofs.Common.{◌≡◌, ℕ, ◌+◌, ◌<◌, List, [], ◌∷◌, ◌++◌, map, length, get_or, take, Ok, Err, Result, sym, refl, ap, ◌∙◌, subst}
 use Rattle.std.proofs.lemmas.List.{take_more, map_push}
 use Rattle.store.specs.declared.text_store.TextStore.{Ghosts}
 use Rattle.calls.specs.declared.answer.Answer.{Answer}
@@ -8,8 +8,9 @@ use Rattle.calls.specs.Replies.{reply_of}
 use Rattle.calls.specs.Said.{Said, said_by}
 use Rattle.session.specs.View.{view}
 use Rattle.session.specs.World.{World, new_world}
-use Rattle.history.specs.declared.outcome.Run.{Run}
-use Rattle.history.specs.declared.outcome.Run.TheVariants.{Finished, Interrupted, Unmade}
+use Rattle.history.specs.declared.outcome.Finished.{Finished}
+use Rattle.history.specs.declared.outcome.Unfinished.{Unfinished}
+use Rattle.history.specs.declared.outcome.Unfinished.TheVariants.{Interrupted, Unmade}
 use Rattle.history.specs.Outcomes.{Ran, RanFrom}
 use Rattle.history.specs.Runs.{Answered, Stopped, replies, world_after}
 use Rattle.history.specs.Steps.{reply, step}
@@ -48,7 +49,7 @@ module _ (w : World) (cs : List Call) (i : ℕ) (c : Call) (lt : i < length cs) 
       let more = replies_push w (map said_by (take i cs)) (said_by c) ∙ refl in
       told ∙ ap (λ x. x ++ reply_of a ∷ []) said ∙ ap (λ x. replies w (map said_by (take i cs)) ++ x ∷ []) same ∙ sym more ∙ ap (replies w) (sym taken)
 
-pub ran : {S : Type 0} {B : Ghosts S} (text : S → List ℕ) (room : S → ℕ) (store : S) (cs : List Call) (r : Run S B) (w : World) → w ≡ new_world (text store) (room store) → RanFrom text room w cs r → Ran text room store cs r
-ran text room store cs (Finished session answers) w is h = let P : World → Type 0 = λ v. Answered v cs answers (view text room session) in subst P is h
-ran text room store cs (Interrupted session) w is h = let P : World → Type 0 = λ v. Stopped v cs (view text room session) in subst P is h
-ran text room store cs (Unmade back) w is h = elim h [ ]
+pub ran : {S : Type 0} {B : Ghosts S} (store : S) (cs : List Call) (r : Result (Finished S B) (Unfinished S B)) (w : World) → w ≡ new_world (B.text store) (B.room store) → RanFrom w cs r → Ran store cs r
+ran store cs (Ok done) w is h = let P : World → Type 0 = λ v. Answered v cs done.answers (view done.session) in subst P is h
+ran store cs (Err (Interrupted session)) w is h = let P : World → Type 0 = λ v. Stopped v cs (view session) in subst P is h
+ran store cs (Err (Unmade back)) w is h = elim h [ ]

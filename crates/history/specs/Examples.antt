@@ -3,7 +3,7 @@ use Rattle.std.specs.Prelude.{◌≡◌, ℕ, List, [], ◌∷◌, ◌++◌, cod
 use Rattle.places.specs.declared.faults.Refusal.{Refusal}
 use Rattle.places.specs.declared.faults.Refusal.TheVariants.{Presence, Window, Spans}
 use Rattle.places.specs.declared.record.Span.{Span}
-use Rattle.places.specs.Refusals.{fault_at}
+use Rattle.store.specs.Refusals.{fault_at}
 use Rattle.calls.specs.Replies.{Reply, done, place, undone, refusal}
 use Rattle.calls.specs.Said.{Said, insert, delete, set_marker, boundary, undo, redo, region_undo, protect, narrow, open_change, cancel}
 use Rattle.session.specs.World.{World, new_world}

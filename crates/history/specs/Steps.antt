@@ -2,12 +2,13 @@
 -- too. Assumes nothing.
 use Rattle.std.specs.Prelude.{ℕ, ◌+◌, ◌-◌, List, length, take, drop, Some, None, Ok, Err, Option, Result, slice_index}
 use Rattle.store.specs.declared.faults.Fault as stores
+use Rattle.store.specs.declared.faults.Refusal as refusals
 use Rattle.store.specs.Edits as store
-use Rattle.places.specs.declared.faults.Fault.{Fault}
 use Rattle.places.specs.Checks.{marker_check}
-use Rattle.places.specs.Refusals.{answer, outcome, lifted_fault}
+use Rattle.places.specs.Refusals.{outcome, lifted_fault, Fault}
+use Rattle.store.specs.Edits.{answer}
 use Rattle.undo_list.specs.Groups.{entries_in, groups_in}
-use Rattle.calls.specs.Replies.{Reply, done, number, byte, bytes, window, place, undone, token, refusal}
+use Rattle.calls.specs.Replies.{Reply, said, said_number, done, number, byte, bytes, window, place, undone, token, refusal}
 use Rattle.calls.specs.Said.{Said, insert, delete, set_marker, boundary, undo, redo, region_undo, trim, protect, unprotect, narrow, widen, open_change, accept, cancel, length_asked, capacity_asked, byte_asked, copy, marker_asked, window_asked, spans_asked, entries_asked, groups_asked}
 use Rattle.session.specs.declared.state.Kind.TheVariants as kind
 use Rattle.session.specs.Calls.{insert_check, insert_world, delete_check, delete_world, marker_set_check, set_world, boundary_check, boundary_world, trim_call_check, trim_world, protect_call_check, protect_world, unprotect_call_check, unprotect_world, narrow_check, narrow_world, widen_check, widen_world}
@@ -17,16 +18,7 @@ use Rattle.session.specs.States.{state_check}
 use Rattle.session.specs.Undo.{undo_place, undo_fault, undo_world, redo_fault, redo_world}
 use Rattle.session.specs.World.{World}
 
--- A refused call says its fault, and an accepted one what it has to say.
-abbrev pub said : Result (Unit {0}) Fault → Reply → Reply
-said (Ok u) r = r
-said (Err f) r = refusal f
-
-abbrev pub said_number : Result ℕ Fault → Reply
-said_number (Ok n) = number n
-said_number (Err f) = refusal f
-
-abbrev pub said_copy : Result (Unit {0}) stores.Fault → List ℕ → Reply
+abbrev pub said_copy : Result (Unit {0}) (stores.Fault refusals.Refusal) → List ℕ → Reply
 said_copy (Ok u) bs = bytes bs
 said_copy (Err f) bs = refusal (lifted_fault f)
 

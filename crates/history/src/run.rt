@@ -5,7 +5,7 @@ ghost use Rattle.history.specs.Laws.{RunsKeep};
 ghost use Rattle.history.specs.Outcomes.{Ran, RanFrom};
 ghost use Rattle.history.specs.Runs.{Answered, Stopped};
 
-use crate::outcome::Run;
+use crate::outcome::{Finished, Unfinished};
 use crate::perform::perform;
 use calls::answer::Answer;
 use calls::call::Call;
@@ -15,13 +15,14 @@ use store::text_store::TextStore;
 
 // Does the calls in their order, and answers each. Where memory is wanting it stops between two calls,
 // and those before have been done.
+// Not one with the loop over a store: a trait for both, with its laws and two impls, outweighs it.
 pub fn perform_all<S: TextStore>(
     heap: Global,
     session: &mut Session<S>,
     calls: &[Call],
 ) -> Result<Vec<Answer>, AllocError>
-    ensures done { IfOk result (λ answers. Answered (view S.TextStore.text S.TextStore.room session.old) calls.now answers (view S.TextStore.text S.TextStore.room session.new)) }
-    ensures stopped { OnErr result (Stopped (view S.TextStore.text S.TextStore.room session.old) calls.now (view S.TextStore.text S.TextStore.room session.new)) }
+    ensures done { IfOk result (λ answers. Answered (view session.old) calls.now answers (view session.new)) }
+    ensures stopped { OnErr result (Stopped (view session.old) calls.now (view session.new)) }
 {
     let mut answers = Vec::with_capacity(heap, calls.len())?;
     for call in calls {
@@ -33,22 +34,27 @@ pub fn perform_all<S: TextStore>(
 
 // Makes a session over the store, and does the calls on it.
 #[tactic(auto, using(crate::proofs::Kept::runs_keep, crate::proofs::Runs::ran))]
-pub fn run_over<S: TextStore>(heap: Global, store: S, calls: &[Call]) -> Run<S>
-    ensures run { Ran S.TextStore.text S.TextStore.room store calls.now result }
+pub fn run_over<S: TextStore>(
+    heap: Global,
+    store: S,
+    calls: &[Call],
+) -> Result<Finished<S>, Unfinished<S>>
+    ensures run { Ran store calls.now result }
     ensures law { RunsKeep }
 {
-    match Session::new(heap, store) {
-        Ok(session) => run_on(heap, session, calls),
-        Err(store) => Run::Unmade { store },
-    }
+    let session = Session::new(heap, store).map_err(|store| Unfinished::Unmade { store })?;
+    run_on(heap, session, calls)
 }
 
-fn run_on<S: TextStore>(heap: Global, session: Session<S>, calls: &[Call]) -> Run<S>
-    ensures { RanFrom S.TextStore.text S.TextStore.room (view S.TextStore.text S.TextStore.room session) calls.now result }
+fn run_on<S: TextStore>(
+    heap: Global,
+    mut session: Session<S>,
+    calls: &[Call],
+) -> Result<Finished<S>, Unfinished<S>>
+    ensures { RanFrom (view session) calls.now result }
 {
-    let mut session = session;
     match perform_all(heap, &mut session, calls) {
-        Ok(answers) => Run::Finished { session, answers },
-        Err(_) => Run::Interrupted { session },
+        Ok(answers) => Ok(Finished { session, answers }),
+        Err(_) => Err(Unfinished::Interrupted { session }),
     }
 }

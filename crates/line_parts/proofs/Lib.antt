@@ -1,3 +1,3 @@
 pub mod Blanked
-pub mod Quoted
+pub mod Unquoted
 pub mod ReadBack

@@ -11,7 +11,7 @@ use Rattle.line_parts.specs.Numbers.{more_digit, on_with, read_digits, read_numb
 use Rattle.line_parts.specs.Quotes.{Bytes, escape, escaped, hex}
 use Rattle.line_parts.specs.Unquotes.{behind, by_turn, closed, hex_turn, hex_value, read_quoted, turn_at, unquoted}
 use Rattle.line_parts.proofs.Blanked.{digit_first}
-use Rattle.line_parts.proofs.Quoted.{behind-behind}
+use Rattle.line_parts.proofs.Unquoted.{behind-behind}
 
 -- A word without blanks.
 Solid : List ℕ → Type 0

@@ -3,8 +3,10 @@
 
 mod misquoted;
 mod quoting;
+mod showing;
 mod words;
 
 pub use misquoted::{InQuotes, Misquoted};
-pub use quoting::{quote, unquote};
+pub use quoting::unquote;
+pub use showing::{Quoted, quote};
 pub use words::{past_blanks, read_number, word};

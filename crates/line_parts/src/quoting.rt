@@ -1,11 +1,10 @@
-// Bytes in double quotes. The escapes are \\ \" \n \t and \xHH; all other bytes from 0x20 to 0x7e
+// Reading bytes in double quotes. The escapes are \\ \" \n \t and \xHH; all other bytes from 0x20 to 0x7e
 // stand for themselves.
-ghost use Rattle.std.specs.Prelude.{◌≡◌, ◌<◌, ◌≤◌, [], ◌∷◌, ◌++◌, length, IfSome, IfOk, IfErr, string_bytes, codes, OnOk};
-ghost use Rattle.line_parts.specs.Quotes.{escape, hex, quoted};
+ghost use Rattle.std.specs.Prelude.{◌≡◌, ◌<◌, ◌≤◌, length, IfSome, IfOk, IfErr};
 ghost use Rattle.line_parts.specs.Unquotes.{Misquotes, closed, hex_turn, hex_value, malformed, read_quoted, turn_at};
 
 use crate::misquoted::{InQuotes, Misquoted};
-use std::alloc::{AllocError, Global};
+use std::alloc::Global;
 
 // How far an escape has been read.
 #[derive(Clone, Copy)]
@@ -19,7 +18,7 @@ enum Quoting {
     LowDigit(u8),
 }
 
-// What the next byte between the quotes does.
+// What the next byte between the quotes does. To fail is one of four, since one match takes them all.
 enum Turn {
     Goes(Quoting),
     Gives(u8),
@@ -31,12 +30,7 @@ fn hex_digit(b: u8) -> Option<u8>
     ensures value { result ≡ hex_value b }
     ensures small { IfSome result (λ d. d < 16) }
 {
-    match b {
-        b'0'..=b'9' => Some(b - b'0'),
-        b'a'..=b'f' => Some(b - b'a' + 10),
-        b'A'..=b'F' => Some(b - b'A' + 10),
-        _ => None,
-    }
+    char::from(b).to_digit(16).map(|digit| digit as u8)
 }
 
 fn take_turn(state: Quoting, b: u8) -> Turn
@@ -72,6 +66,7 @@ fn hex_byte(high: u8, low: u8) -> Turn
 
 // Reads up to the closing quote what stands behind an opening one: the bytes, and how many of the
 // line they took, the closing quote too.
+#[tactic(auto, using(crate::proofs::Unquoted::unquoted_closes, crate::proofs::Unquoted::unquoted_fails, crate::proofs::Unquoted::unquoted_gives, crate::proofs::Unquoted::unquoted_goes, crate::proofs::Unquoted::unquoted_open))]
 pub fn unquote(heap: Global, rest: &[u8]) -> Result<(Vec<u8>, usize), Misquoted>
     ensures read { IfOk result (λ v. read_quoted rest.now ≡ closed v.0.items v.1) }
     ensures within { IfOk result (λ v. v.1 ≤ length rest.now) }
@@ -91,52 +86,4 @@ pub fn unquote(heap: Global, rest: &[u8]) -> Result<(Vec<u8>, usize), Misquoted>
         }
     }
     Err(Misquoted::Malformed(InQuotes::ClosingQuote))
-}
-
-// The bytes in double quotes, in their plain form.
-pub fn quote(heap: Global, bytes: &[u8]) -> Result<String, AllocError>
-    ensures { IfOk result (λ s. string_bytes s ≡ quoted bytes.now) }
-{
-    let mut text = String::from_str(heap, "\"")?;
-    for b in bytes {
-        push_escaped(&mut text, *b)?;
-    }
-    text.push_str("\"")?;
-    Ok(text)
-}
-
-fn push_escaped(text: &mut String, b: u8) -> Result<(), AllocError>
-    ensures { OnOk result (string_bytes text.new ≡ string_bytes text.old ++ escape b) }
-{
-    match b {
-        b'\\' => text.push_str("\\\\"),
-        b'"' => text.push_str("\\\""),
-        b'\n' => text.push_str("\\n"),
-        b'\t' => text.push_str("\\t"),
-        0x20..=0x7e => text.push(char::from(b)),
-        _ => push_hex(text, b / 16, b % 16),
-    }
-}
-
-fn push_hex(text: &mut String, high: u8, low: u8) -> Result<(), AllocError>
-    requires high { high < 16 }
-    requires low { low < 16 }
-    ensures { OnOk result (string_bytes text.new ≡ string_bytes text.old ++ (codes "\\x" ++ (hex high ∷ hex low ∷ []))) }
-{
-    text.push_str("\\x")?;
-    text.push(hex_char(high))?;
-    text.push(hex_char(low))?;
-    Ok(())
-}
-
-fn hex_char(digit: u8) -> char
-    requires { digit < 16 }
-    ensures value { result ≡ hex digit }
-    ensures ascii { result < 128 }
-{
-    if digit < 10 {
-        char::from(b'0' + digit)
-    } else {
-        char::from(b'a' + (digit - 10))
-    }
 }

@@ -1,5 +1,6 @@
 // Words, the blanks between them, and words that are numbers.
-ghost use Rattle.std.specs.Prelude.{◌≡◌};
+ghost use Rattle.std.specs.Prelude.{◌≡◌, ◌≤◌, length, not};
+ghost use Rattle.std.specs.List.{prefix_len};
 ghost use Rattle.line_parts.specs.Blanks.{behind_word, first_word, is_blank, past_blanks};
 ghost use Rattle.line_parts.specs.Numbers.{more_digit, read_number};
 
@@ -10,15 +11,18 @@ fn is_blank(b: u8) -> bool
     matches!(b, b' ' | b'\t' | b'\r')
 }
 
+#[tactic(auto, using(crate::proofs::Blanked::past_from))]
 pub fn past_blanks(line: &[u8]) -> &[u8]
     ensures { result.now ≡ past_blanks line.now }
 {
-    for (i, b) in line.iter().enumerate() {
-        if !is_blank(*b) {
-            return &line[i..];
-        }
-    }
-    &line[line.len()..]
+    line.split_at(blanks_before(line)).1
+}
+
+fn blanks_before(line: &[u8]) -> usize
+    ensures count { result ≡ prefix_len (λ b. is_blank b) line.now }
+    ensures within { result ≤ length line.now }
+{
+    line.iter().take_while(|b| is_blank(**b)).count()
 }
 
 // The next word, and what stands behind it.
@@ -29,16 +33,19 @@ pub fn word(line: &[u8]) -> (&[u8], &[u8])
     up_to_blank(past_blanks(line))
 }
 
+#[tactic(auto, using(crate::proofs::Blanked::word_to, crate::proofs::Blanked::behind_from))]
 fn up_to_blank(line: &[u8]) -> (&[u8], &[u8])
     ensures word { result.0.now ≡ first_word line.now }
     ensures behind { result.1.now ≡ behind_word line.now }
 {
-    for (i, b) in line.iter().enumerate() {
-        if is_blank(*b) {
-            return line.split_at(i);
-        }
-    }
-    line.split_at(line.len())
+    line.split_at(bytes_before_blank(line))
+}
+
+fn bytes_before_blank(line: &[u8]) -> usize
+    ensures count { result ≡ prefix_len (λ b. not (is_blank b)) line.now }
+    ensures within { result ≤ length line.now }
+{
+    line.iter().take_while(|b| !is_blank(**b)).count()
 }
 
 // A decimal number of at most 64 bits, and nothing else.
@@ -58,8 +65,6 @@ pub fn read_number(digits: &[u8]) -> Option<usize>
 fn one_more_digit(value: usize, d: u8) -> Option<usize>
     ensures { result ≡ more_digit value d }
 {
-    if d < b'0' || d > b'9' {
-        return None;
-    }
-    value.checked_mul(10)?.checked_add(usize::from(d - b'0'))
+    let digit = char::from(d).to_digit(10)?;
+    value.checked_mul(10)?.checked_add(digit as usize)
 }

@@ -1,5 +1,5 @@
 mod Copying
-mod Inside
-mod Spelled
+pub mod Inside
+pub mod Spelled
 mod Spliced
-mod Tables
+pub mod Tables

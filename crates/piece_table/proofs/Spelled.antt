@@ -1,6 +1,6 @@
 -- What pieces spell, and where in it the bytes of one of them stand.
-use Rattle.std.proofs.Common.{◌≡◌, ℕ, ◌+◌, ◌<◌, ◌≤◌, true, List, [], ◌∷◌, ◌++◌, length, get_or, take, drop, sym, refl, ap, ◌∙◌, inl, inr, arith, length-append, length-drop, length-take, rules}
-use Rattle.std.proofs.lemmas.List.{same_lists, places, drop_more, take_all, take_more, append_assoc, take-append-drop}
+use Rattle.std.proofs.Common.{◌≡◌, ℕ, ◌+◌, ◌<◌, ◌≤◌, true, List, [], ◌∷◌, ◌++◌, length, get_or, slice_index_or, ◌-◌, take, drop, sym, refl, ap, ◌∙◌, inl, inr, arith, length-append, length-drop, length-take, rules}
+use Rattle.std.proofs.lemmas.List.{same_lists, places, drop_more, take_all, take_more, append_assoc, append-nil, take-append-drop}
 use Rattle.std.proofs.lemmas.Bool.Decides.{leb_tells}
 use Rattle.piece_table.specs.Pieces.{part, spelled, inside, total, no_piece, piece_at, Walked}
 use Rattle.piece_table.specs.declared.pieces.Piece.{Piece}
@@ -15,6 +15,14 @@ total_append (p ∷ ps) qs = let h = total_append ps qs in omega arith
 pub total_more : (ps : List Piece) (i : ℕ) → i < length ps → total (take (i + 1) ps) ≡ total (take i ps) + (piece_at ps i).len
 total_more ps i h = rw (take_more ps i no_piece h) (let e = total_append (take i ps) (piece_at ps i ∷ []) in omega arith)
 
+-- The same, where the pieces are counted from a place on.
+pub total_from : (ps : List Piece) (from i : ℕ) → from + i < length ps → total (take (from + (i + 1)) ps) ≡ total (take (from + i) ps) + (slice_index_or (take (length ps - from) (drop from ps)) i no_piece).len
+total_from ps from i lt =
+    let q : slice_index_or (take (length ps - from) (drop from ps)) i no_piece ≡ piece_at ps (from + i) = grind (arith, places) in
+    let n : from + (i + 1) ≡ (from + i) + 1 = omega arith in
+    let t = total_more ps (from + i) lt in
+    cc
+
 pub spelled_append : (m : List ℕ) (ps qs : List Piece) → spelled m (ps ++ qs) ≡ spelled m ps ++ spelled m qs
 spelled_append m [] qs = refl
 spelled_append m (p ∷ ps) qs = let h = spelled_append m ps qs in rw h (sym (append_assoc (part m p) (spelled m ps) (spelled m qs)))
@@ -22,11 +30,11 @@ spelled_append m (p ∷ ps) qs = let h = spelled_append m ps qs in rw h (sym (ap
 length_part : (m : List ℕ) (q : Piece) → q.start + q.len ≤ length m → length (part m q) ≡ q.len
 length_part m q h = simp (length-take, length-drop) (omega arith)
 
-pub length-spelled : (m : List ℕ) (ps : List Piece) → inside (length m) ps ≡ true → length (spelled m ps) ≡ total ps
-length-spelled m [] h = refl
-length-spelled m (q ∷ qs) h =
+pub length_spelled : (m : List ℕ) (ps : List Piece) → inside (length m) ps ≡ true → length (spelled m ps) ≡ total ps
+length_spelled m [] h = refl
+length_spelled m (q ∷ qs) h =
     let a = length_part m q (inside_first (length m) q qs h) in
-    let b = length-spelled m qs (inside_rest (length m) q qs h) in
+    let b = length_spelled m qs (inside_rest (length m) q qs h) in
     length-append (part m q) (spelled m qs) ∙ omega arith
 
 -- The whole, cut before the piece i.
@@ -55,7 +63,7 @@ first_of xs ys a b k some h =
 
 module _ (m : List ℕ) (ps : List Piece) (ok : inside (length m) ps ≡ true) where
   front_long : (i : ℕ) → length (spelled m (take i ps)) ≡ total (take i ps)
-  front_long i = length-spelled m (take i ps) (inside_take (length m) i ps ok)
+  front_long i = length_spelled m (take i ps) (inside_take (length m) i ps ok)
 
   -- The whole up to, and from, o bytes behind the first i pieces.
   pub spelled_up_to : (i o : ℕ) → take (total (take i ps) + o) (spelled m ps) ≡ spelled m (take i ps) ++ take o (spelled m (drop i ps))
@@ -76,7 +84,7 @@ module _ (m : List ℕ) (ps : List Piece) (ok : inside (length m) ps ≡ true) w
   -- A walk to a byte of the text ends in a piece, and there the byte is.
   pub walked_in : (p : ℕ) (a : Spot) → Walked ps 0 p a → p < length (spelled m ps) → a.piece < length ps
   walked_in p a w lt =
-      let n = length-spelled m ps ok in
+      let n = length_spelled m ps ok in
       let s = w.sum in
       let k = w.within in
       elim (leb_tells (length ps) a.piece) [
@@ -96,3 +104,17 @@ module _ (m : List ℕ) (ps : List Piece) (ok : inside (length m) ps ≡ true) w
       let here = walked_in p a w lt in
       let k = w.here here in
       first_of m (spelled m ps) ((piece_at ps a.piece).start + a.offset) p 1 (omega arith) (piece_bytes a.piece a.offset 1 p here (omega arith) (w.sum ∙ omega arith))
+
+  -- One piece more than the first i, as what it adds to what they spell.
+  pub one_more : (i : ℕ) → i < length ps → spelled m (take (i + 1) ps) ≡ spelled m (take i ps) ++ take (((piece_at ps i).start + (piece_at ps i).len) - (piece_at ps i).start) (drop (piece_at ps i).start m)
+  one_more i lt =
+      let q = piece_at ps i in
+      let w : spelled m (q ∷ []) ≡ part m q = append-nil (part m q) in
+      let n : (q.start + q.len) - q.start ≡ q.len = omega arith in
+      let t = take_more ps i no_piece lt in
+      let a = spelled_append m (take i ps) (q ∷ []) in
+      cc
+
+  -- The first pieces spell no more than all.
+  pub front_short : (i : ℕ) → length (spelled m (take i ps)) ≤ length (spelled m ps)
+  front_short i = omega (arith, ap length (split-spelled m ps i), length-append (spelled m (take i ps)) (spelled m (drop i ps)))

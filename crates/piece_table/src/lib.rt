@@ -2,8 +2,9 @@
 // a memory, and an edit changes the list.
 #![tactic(auto)]
 
-mod memory;
+mod piece_list;
 mod pieces;
+mod spelling;
 mod splicing;
 mod table;
 

@@ -1,6 +1,7 @@
 -- A record that is carried through an edit stays within its length. Assumes nothing.
-use Rattle.std.proofs.Common.{◌≡◌, ℕ, zero, suc, ◌+◌, ◌-◌, ◌<◌, ◌≤◌, Bool, true, false, List, [], ◌∷◌, map, length, get_or, take, Some, None, Option, sym, ap, ◌∙◌, arith, length-take}
-use Rattle.std.proofs.lemmas.List.{get_or-take}
+use Rattle.std.proofs.Common.{◌≡◌, ℕ, zero, suc, ◌+◌, ◌-◌, ◌<◌, ◌≤◌, Bool, true, false, List, [], ◌∷◌, map, length, get_or, Some, None, Option, arith}
+use Rattle.std.specs.List.{All}
+use Rattle.std.proofs.lemmas.List.Elements.{All-map}
 use Rattle.std.proofs.lemmas.Bool.{and_parts, not-true}
 use Rattle.std.proofs.lemmas.Bool.Decides.{nat_tests}
 use Rattle.places.specs.declared.edit.Edit.{Edit}
@@ -14,9 +15,8 @@ use Rattle.places.specs.Markers.{marker_after, put_back, markers_after, markers_
 use Rattle.places.specs.Model.{Model}
 use Rattle.places.specs.Near.{near}
 use Rattle.places.specs.Spans.{span_after, meets, deletion_meets, some_span}
-use Rattle.places.proofs.Kept.{Marked, Sound, Spanned}
+use Rattle.places.proofs.Kept.{Marked, Sound}
 use Rattle.places.proofs.Sixteen.{after_at, back_at}
-use Rattle.places.proofs.Slots.{one_of}
 
 pub window_after : (e : Edit) (m : Model) (len : ℕ) → len ≡ len_after e m.len → m.before + m.behind ≤ m.len → fits e m ≡ true → m.before + m.behind ≤ len
 window_after (Insertion p n) m len is w h = omega arith
@@ -46,27 +46,24 @@ one_inserted p n len s h = (grind (arith, nat_tests), grind (arith, nat_tests))
 one_deleted : (p n len : ℕ) (s : Span) → p + n ≤ len → deletion_meets p n s ≡ false → Sound len s → Sound (len - n) (span_after (Deletion p n) s)
 one_deleted p n len s w m h = (grind (arith, nat_tests), grind (arith, nat_tests))
 
-pub spanned_inserted : (p n len : ℕ) (xs ss : List Span) (c : ℕ) → length ss ≡ 8 → c ≤ 8 → take c xs ≡ map (span_after (Insertion p n)) (take c ss) → Spanned len c ss → Spanned (len + n) c xs
-spanned_inserted p n len xs ss c long few is each k d h =
-    rw (one_of (span_after (Insertion p n)) xs ss c k d few long h is) (one_inserted p n len (get_or ss k d) (each k d h))
-
-pub spanned_after : (e : Edit) (m : Model) (len : ℕ) (xs ss : List Span) (c : ℕ) → len ≡ len_after e m.len → m.spans ≡ take c ss → fits e m ≡ true → length ss ≡ 8 → c ≤ 8 → take c xs ≡ map (span_after e) (take c ss) → Spanned m.len c ss → Spanned len c xs
-spanned_after (Insertion p n) m len xs ss c grown are h long few is each k d lt = rw grown (spanned_inserted p n m.len xs ss c long few is each k d lt)
-spanned_after (Deletion p n) m len xs ss c shrunk are h long few is each k d lt =
-    let i : k < length (take c ss) = simp length-take (omega arith) in
+one_after : (e : Edit) (m : Model) (k : ℕ) (d : Span) → fits e m ≡ true → All (Sound m.len) m.spans → k < length m.spans → Sound (len_after e m.len) (span_after e (get_or m.spans k d))
+one_after (Insertion p n) m k d h each lt = one_inserted p n m.len (get_or m.spans k d) (each k d lt)
+one_after (Deletion p n) m k d h each lt =
     let j : in_window m (Deletion p n) ≡ true = (and_parts _ _ h).0 in
     let w : p + n ≤ m.len = grind (arith, nat_tests) in
-    let none : some_span (meets Call (Deletion p n)) (take c ss) ≡ false = ap (some_span (meets Call (Deletion p n))) (sym are) ∙ not-true _ (and_parts _ _ h).1 in
-    let unmet : deletion_meets p n (get_or ss k d) ≡ false = ap (deletion_meets p n) (sym (get_or-take c ss k d lt)) ∙ none_passes (meets Call (Deletion p n)) (take c ss) k d i none in
-    rw (shrunk, one_of (span_after (Deletion p n)) xs ss c k d few long lt is) (one_deleted p n m.len (get_or ss k d) w unmet (each k d lt))
+    let none : some_span (meets Call (Deletion p n)) m.spans ≡ false = not-true _ (and_parts (in_window m (Deletion p n)) _ h).1 in
+    let unmet : deletion_meets p n (get_or m.spans k d) ≡ false = none_passes (meets Call (Deletion p n)) m.spans k d lt none in
+    one_deleted p n m.len (get_or m.spans k d) w unmet (each k d lt)
+
+pub spanned_after : (e : Edit) (m : Model) (len : ℕ) (out : List Span) → len ≡ len_after e m.len → out ≡ map (span_after e) m.spans → fits e m ≡ true → All (Sound m.len) m.spans → All (Sound len) out
+spanned_after e m len out is are h each =
+    rw (is, are) (All-map (Sound (len_after e m.len)) (span_after e) m.spans (λ k d lt. one_after e m k d h each lt))
 
 one_back : (p n len i : ℕ) (o : Option ℕ) (x : ℕ) → p ≤ len → near n o ≡ true → x ≤ len → put_back p n i o x ≤ len + n
 one_back p n len i None x w e h = grind (arith, nat_tests)
 one_back p n len i (Some d) x w e h = grind (arith, nat_tests)
 
-pub marked_back : (p n len : ℕ) (notes : List (Option ℕ)) (ms out : List ℕ) → out ≡ markers_put_back p n notes ms → p ≤ len → ((k : ℕ) → k < 16 → near n (get_or notes k None) ≡ true) → Marked len ms → Marked (len + n) out
-marked_back p n len notes ms out are w close each k h =
-    rw (are, back_at p n notes ms k h) (one_back p n len k (get_or notes k None) (get_or ms k 0) w (close k h) (each k h))
-
-pub place_within : (p n : ℕ) (m : Model) → fits (Insertion p n) m ≡ true → p ≤ m.len
-place_within p n m h = grind (arith, nat_tests)
+pub marked_back : (p n : ℕ) (notes : List (Option ℕ)) (m : Model) (len : ℕ) (out : List ℕ) → len ≡ m.len + n → out ≡ markers_put_back p n notes m.markers → fits (Insertion p n) m ≡ true → ((k : ℕ) → k < 16 → near n (get_or notes k None) ≡ true) → Marked m.len m.markers → Marked len out
+marked_back p n notes m len out is are fit close each k h =
+    let w : p ≤ m.len = grind (arith, nat_tests) in
+    rw (is, are, back_at p n notes m.markers k h) (one_back p n m.len k (get_or notes k None) (get_or m.markers k 0) w (close k h) (each k h))

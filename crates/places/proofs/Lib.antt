@@ -1,7 +1,6 @@
 pub mod Back
 pub mod Carried
 pub mod Kept
+pub mod Mapped
 pub mod Run
 pub mod Sixteen
-pub mod Slots
-pub mod Turns

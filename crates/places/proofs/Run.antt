@@ -8,12 +8,12 @@ use Rattle.places.specs.declared.edit.Edit.{Edit}
 use Rattle.places.specs.declared.edit.Edit.TheVariants.{Insertion, Deletion}
 use Rattle.places.specs.declared.edit.Origin.{Origin}
 use Rattle.places.specs.declared.edit.Origin.TheVariants.{Call}
-use Rattle.places.specs.declared.faults.Fault.{Fault}
+use Rattle.places.specs.Refusals.{Fault}
 use Rattle.places.specs.declared.faults.Refusal.{Refusal}
 use Rattle.places.specs.declared.record.Span.{Span}
 use Rattle.places.specs.Carry.{fits, carried, after}
 use Rattle.places.specs.Checks.{place_check, in_window, window_check, span_check}
-use Rattle.places.specs.DryRun.{and_then, then_also, edit_check, sight, put_to_all, EachFits, growth_of_all}
+use Rattle.places.specs.DryRun.{and_then, edit_check, sight, put_to_all, EachFits, growth_of_all}
 use Rattle.places.specs.Edits.{growth, place_of}
 use Rattle.places.specs.Model.{Model}
 use Rattle.places.specs.Spans.{meets, some_span}
@@ -67,9 +67,6 @@ each_fits o m (e ∷ es) room pl wi sp =
     let w3 = ap (λ w. put_to_all (edit_check Window) w es) (sym (cond-true _ (carried e (sight Window m)) (sight Window m) (fits_window e m one p1 w1))) ∙ w2 in
     let s3 = ap (λ w. put_to_all (edit_check (Spans o)) w es) (sym (cond-true _ (carried e m) m fit)) ∙ s2 in
     (fit, each_fits o (carried e m) es (smaller e m (growth_of_all es) room) p3 w3 s3)
-
-pub all_three : (a b c r : Result (Unit {0}) Fault) → Ok (tt {0}) ≡ a → Ok (tt {0}) ≡ b → r ≡ c → r ≡ then_also a (then_also b c)
-all_three a b c r p q e = e ∙ ap (λ x. then_also x c) q ∙ ap (λ x. then_also x (then_also b c)) p
 
 pub where_passed : (r : Result (Unit {0}) Fault) (X : Type 0) → (r ≡ Ok (tt {0}) → X) → IfOk r (λ _. X)
 where_passed (Ok u) X f = f refl

@@ -3,7 +3,7 @@
 use Rattle.std.specs.Prelude.{◌≡◌, ℕ, ◌+◌, true, List, [], ◌∷◌, Some, None, Ok, Err, Option, Result}
 use Rattle.places.specs.declared.edit.Edit.{Edit}
 use Rattle.places.specs.declared.edit.Origin.{Origin}
-use Rattle.places.specs.declared.faults.Fault.{Fault}
+use Rattle.places.specs.Refusals.{Fault}
 use Rattle.places.specs.declared.faults.Refusal.{Refusal}
 use Rattle.places.specs.declared.edit.Check.{Check}
 use Rattle.places.specs.declared.edit.Check.TheVariants.{Place, Window, Spans}
@@ -12,7 +12,7 @@ use Rattle.places.specs.Carry.{fits, carried, after}
 use Rattle.places.specs.Checks.{place_check, window_check, span_check}
 use Rattle.places.specs.Edits.{growth, place_of}
 use Rattle.places.specs.Model.{Model}
-use Rattle.places.specs.Refusals.{fault_at}
+use Rattle.store.specs.Refusals.{fault_at}
 
 -- The checks that a record puts to an edit, in their order.
 abbrev pub edit_check : Check → Model → Edit → Option Refusal

@@ -9,4 +9,5 @@ pub mod Model
 pub mod Near
 pub mod Refusals
 pub mod Shown
+pub mod Slots
 pub mod Spans

@@ -1,9 +1,10 @@
 -- What a record of places means: the text's length, its sixteen markers, its spans in their order
 -- and the window's two counts. Assumes nothing.
-use Rattle.std.specs.Prelude.{ℕ, List, take, Ok, Err, Result}
-use Rattle.places.specs.declared.faults.Fault.{Fault}
+use Rattle.std.specs.Prelude.{ℕ, List, Ok, Err, Result}
+use Rattle.places.specs.Refusals.{Fault}
 use Rattle.places.specs.declared.record.Span.{Span}
 use Rattle.places.specs.declared.record.Places.{Places}
+use Rattle.places.specs.Slots.{spans_of}
 
 pub record Model : Type 0 where
   pub len : ℕ
@@ -13,7 +14,7 @@ pub record Model : Type 0 where
   pub behind : ℕ
 
 abbrev pub model : Places → Model
-model r = record { len = r.len; markers = r.markers; spans = take r.count r.spans; before = r.before; behind = r.behind }
+model r = record { len = r.len; markers = r.markers; spans = spans_of r.spans; before = r.before; behind = r.behind }
 
 -- The same of the answer of a call.
 abbrev pub modelled : Result Places Fault → Result Model Fault

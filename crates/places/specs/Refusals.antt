@@ -1,10 +1,10 @@
--- The number and the layer of each refusal, the fault of a refused call, and how a store's refusals
+-- The number and the layer of each refusal, the type of the fault of a refused call, and how a store's refusals
 -- and faults become the session's. Assumes nothing.
 use Rattle.std.specs.Prelude.{ℕ, Some, None, Ok, Err, Option, Result}
-use Rattle.store.specs.declared.faults.Fault as stores
+use Rattle.store.specs.declared.faults.Fault as faults
 use Rattle.store.specs.declared.faults.Refusal as store-refusals
 use Rattle.store.specs.declared.faults.Refusal.TheVariants as store-refusal
-use Rattle.places.specs.declared.faults.Fault.{Fault}
+use Rattle.store.specs.Refusals.{fault_at}
 use Rattle.places.specs.declared.faults.Refusal.{Refusal}
 use Rattle.places.specs.declared.faults.Refusal.TheVariants.{State, Argument, Count, Place, Area, Presence, SpanTable, Window, Spans, Capacity, UndoList}
 
@@ -35,8 +35,9 @@ layer Spans = 2
 layer Capacity = 1
 layer UndoList = 2
 
-abbrev pub fault_at : Refusal → ℕ → Fault
-fault_at why p = record { refusal = why; place = p }
+-- A refused call of a session.
+abbrev pub Fault : Type 0
+Fault = faults.Fault Refusal
 
 -- A store's refusal is the session's of the same name.
 abbrev pub lifted : store-refusals.Refusal → Refusal
@@ -45,13 +46,8 @@ lifted store-refusal.Place = Place
 lifted store-refusal.Area = Area
 lifted store-refusal.Capacity = Capacity
 
-abbrev pub lifted_fault : stores.Fault → Fault
+abbrev pub lifted_fault : faults.Fault store-refusals.Refusal → Fault
 lifted_fault f = fault_at (lifted f.refusal) f.place
-
--- The answer to a check: nothing, or the fault at the call's place.
-abbrev pub answer : Option Refusal → ℕ → Result (Unit {0}) Fault
-answer None p = Ok tt
-answer (Some why) p = Err (fault_at why p)
 
 -- The answer of a call: what was asked for, or the fault at the call's place.
 abbrev pub outcome : {A : Type 0} → Option Refusal → ℕ → A → Result A Fault

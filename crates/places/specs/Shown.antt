@@ -1,9 +1,9 @@
 -- How a refusal and a fault are written. Assumes nothing.
-use Rattle.std.specs.Prelude.{ℕ, List, ◌++◌, codes, decimal}
-use Rattle.places.specs.declared.faults.Fault.{Fault}
+use Rattle.std.specs.Prelude.{ℕ, List, codes}
+use Rattle.store.specs.Shown.{shown_fault}
+use Rattle.places.specs.Refusals.{number, layer, Fault}
 use Rattle.places.specs.declared.faults.Refusal.{Refusal}
 use Rattle.places.specs.declared.faults.Refusal.TheVariants.{State, Argument, Count, Place, Area, Presence, SpanTable, Window, Spans, Capacity, UndoList}
-use Rattle.places.specs.Refusals.{layer, number}
 
 -- The name of the check in the table of refusals.
 abbrev pub check_name : Refusal → List ℕ
@@ -21,5 +21,4 @@ check_name UndoList = codes "undo list"
 
 -- As "8 (window), layer 2, place 99".
 abbrev pub fault_form : Fault → List ℕ
-fault_form f =
-    decimal (number f.refusal) ++ (codes " (" ++ (check_name f.refusal ++ (codes "), layer " ++ (decimal (layer f.refusal) ++ (codes ", place " ++ decimal f.place)))))
+fault_form f = shown_fault number layer check_name f

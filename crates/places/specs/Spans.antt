@@ -1,5 +1,6 @@
 -- Where a span goes when the text changes, and when an edit meets it. Assumes nothing.
-use Rattle.std.specs.Prelude.{ℕ, ◌+◌, ◌-◌, Bool, true, false, cond, ◌&&◌, List, [], ◌∷◌, nat_le, nat_lt}
+use Rattle.std.specs.Prelude.{ℕ, ◌+◌, ◌-◌, Bool, cond, ◌&&◌, List, nat_le, nat_lt}
+use Rattle.std.specs.List.{list_any}
 use Rattle.places.specs.declared.edit.Edit.{Edit}
 use Rattle.places.specs.declared.edit.Edit.TheVariants.{Insertion, Deletion}
 use Rattle.places.specs.declared.edit.Origin.{Origin}
@@ -44,5 +45,4 @@ inside s e span = nat_le s span.start && nat_le span.end e
 
 -- Whether a test holds of some span.
 abbrev pub some_span : (Span → Bool) → List Span → Bool
-some_span test [] = false
-some_span test (s ∷ ss) = cond (test s) true (some_span test ss)
+some_span test ss = list_any test ss

@@ -1,15 +1,14 @@
 // The checks that a record of places puts to a call or an edit, each with its refusal.
-ghost use Rattle.std.specs.Prelude.{◌≡◌, ◌+◌, ◌-◌, ◌≤◌, true, false, OnOk, nat_lt};
+ghost use Rattle.std.specs.Prelude.{◌≡◌, ◌+◌, ◌-◌, ◌≤◌, true, false, OnOk};
 ghost use Rattle.places.specs.Checks.{marker_check, range_check, place_check, in_window, window_check, region_check, span_check};
 ghost use Rattle.places.specs.Edits.{place_of, reach};
 ghost use Rattle.places.specs.Model.{model};
-ghost use Rattle.places.specs.Refusals.{answer};
+ghost use Rattle.store.specs.Edits.{answer};
 ghost use Rattle.places.specs.Spans.{meets, some_span};
 
 use crate::edit::{Edit, Origin};
-use crate::faults::{Fault, Refusal};
+use crate::faults::{Fault, Refusal, Refuses};
 use crate::record::Places;
-use crate::spans::meets_some;
 
 // The markers are numbered 0 to 15.
 pub const LAST_MARKER: usize = 15;
@@ -25,27 +24,9 @@ pub fn check_marker(number: usize, place: usize) -> Result<(), Fault>
     Ok(())
 }
 
-fn edit_place(edit: Edit) -> usize
-    ensures { result ≡ place_of edit }
-{
-    match edit {
-        Edit::Insertion { place, count: _ } => place,
-        Edit::Deletion { place, count: _ } => place,
-    }
-}
-
-// Whether the edit reaches past a place; tested by subtraction, since the sum may not fit.
-fn reaches_past(edit: Edit, end: usize) -> bool
-    ensures { result ≡ nat_lt end (reach edit) }
-{
-    match edit {
-        Edit::Insertion { place, count: _ } => place > end,
-        Edit::Deletion { place, count } => place > end || end - place < count,
-    }
-}
-
 impl Places {
-    // Place: a range from s to e runs forward, and does not end past the length.
+    // Place: a range from s to e runs forward, and does not end past the length. It comes as two numbers,
+    // and not as a span, since it is here that a range that runs backward is refused.
     pub fn check_range(self, s: usize, e: usize) -> Result<(), Fault>
         ensures value { result ≡ answer (range_check self.len s e) s }
         ensures passed { OnOk result ((s ≤ e) × (e ≤ self.len)) }
@@ -61,8 +42,8 @@ impl Places {
         ensures value { result ≡ answer (place_check (model self) edit) (place_of edit) }
         ensures passed { OnOk result (reach edit ≤ self.len) }
     {
-        if reaches_past(edit, self.len) {
-            return Err(Refusal::Place.at(edit_place(edit)));
+        if edit.reaches_past(self.len) {
+            return Err(Refusal::Place.at(edit.place()));
         }
         Ok(())
     }
@@ -77,7 +58,7 @@ impl Places {
     pub(crate) fn in_window(self, edit: Edit) -> bool
         ensures { result ≡ in_window (model self) edit }
     {
-        self.before <= edit_place(edit) && !reaches_past(edit, self.window_end())
+        self.before <= edit.place() && !edit.reaches_past(self.window_end())
     }
 
     // Window: an edit lies between the counts, edges included.
@@ -86,7 +67,7 @@ impl Places {
         ensures passed { OnOk result (in_window (model self) edit ≡ true) }
     {
         if !self.in_window(edit) {
-            return Err(Refusal::Window.at(edit_place(edit)));
+            return Err(Refusal::Window.at(edit.place()));
         }
         Ok(())
     }
@@ -107,8 +88,8 @@ impl Places {
         ensures value { result ≡ answer (span_check (model self) origin edit) (place_of edit) }
         ensures passed { OnOk result (some_span (meets origin edit) (model self).spans ≡ false) }
     {
-        if meets_some(origin, edit, self.spans, self.count) {
-            return Err(Refusal::Spans.at(edit_place(edit)));
+        if self.spans.any_meets(origin, edit) {
+            return Err(Refusal::Spans.at(edit.place()));
         }
         Ok(())
     }

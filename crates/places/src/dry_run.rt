@@ -4,7 +4,7 @@ ghost use Rattle.std.specs.Prelude.{◌≡◌, ◌+◌, ◌^◌, ◌<◌, OnOk};
 ghost use Rattle.places.specs.DryRun.{dry_run, edit_check, sight, put_to_all, EachFits, growth_of_all};
 ghost use Rattle.places.specs.Edits.{place_of};
 ghost use Rattle.places.specs.Model.{model};
-ghost use Rattle.places.specs.Refusals.{answer};
+ghost use Rattle.store.specs.Edits.{answer};
 
 use crate::edit::{Check, Edit, Origin};
 use crate::faults::Fault;
@@ -13,6 +13,7 @@ use crate::record::Places;
 impl Places {
     // Place to all the edits, then window to all, then spans to all: the first fault answers. Where all
     // pass, and no sum is too large for the machine, the record is carried through each of them.
+    #[tactic(auto, using(crate::proofs::Run::where_passed, crate::proofs::Run::each_fits))]
     pub fn dry_run(self, origin: Origin, edits: &[Edit]) -> Result<(), Fault>
         ensures value { result ≡ dry_run origin (model self) edits.now }
         ensures carried { OnOk result (self.len + growth_of_all edits.now < 2 ^ 64 → EachFits (model self) edits.now) }
@@ -22,11 +23,17 @@ impl Places {
         self.check_all(Check::Spans(origin), edits)
     }
 
-    // Puts the check to all the edits: the first refused answers, with its own place.
+    // Puts the check to all the edits: the first refused answers, with its own place. A closure in place
+    // of the check's name would need a `requires`, and a public function has none.
     pub fn check_all(self, check: Check, edits: &[Edit]) -> Result<(), Fault>
         ensures { result ≡ put_to_all (edit_check check) (sight check (model self)) edits.now }
     {
-        self.sight(check).check_each(check, edits)
+        let mut copy = self.sight(check);
+        for edit in edits {
+            copy.check_edit(check, *edit)?;
+            copy = copy.after(*edit);
+        }
+        Ok(())
     }
 
     // What the check goes by. Counts and spans, whose checks come later, are left out, so that an edit
@@ -50,16 +57,5 @@ impl Places {
             Check::Window => self.check_window(edit),
             Check::Spans(origin) => self.check_spans(origin, edit),
         }
-    }
-
-    fn check_each(self, check: Check, edits: &[Edit]) -> Result<(), Fault>
-        ensures { result ≡ put_to_all (edit_check check) (model self) edits.now }
-    {
-        let mut copy = self;
-        for edit in edits {
-            copy.check_edit(check, *edit)?;
-            copy = copy.after(*edit);
-        }
-        Ok(())
     }
 }

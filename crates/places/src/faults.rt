@@ -1,10 +1,11 @@
 // How a session refuses a call: by which check, and at which place. A store's faults convert.
-ghost use Rattle.std.specs.Prelude.{◌≡◌, Some};
-ghost use Rattle.places.specs.Refusals.{number, layer, fault_at, lifted, lifted_fault};
-ghost use Rattle.places.specs.Shown.{check_name, fault_form};
+ghost use Rattle.std.specs.Prelude.{◌≡◌, Some, refl};
+ghost use Rattle.places.specs.Refusals.{number, layer, lifted};
+ghost use Rattle.places.specs.Shown.{check_name};
 
 use std::fmt;
-use store::faults::{Fault as StoreFault, Refusal as StoreRefusal};
+use store::faults::Refusal as StoreRefusal;
+pub use store::faults::Refuses;
 
 // The checks of a store and of the session over it, in the order in which they run.
 #[derive(Clone, Copy, PartialEq, Eq, Debug)]
@@ -33,10 +34,16 @@ pub enum Refusal {
     UndoList,
 }
 
-impl Refusal {
-    pub fn number(self) -> u8
-        ensures { result ≡ number self }
-    {
+impl Refuses for Refusal {
+    ghost number = { number };
+
+    ghost layer = { layer };
+
+    ghost name = { check_name };
+
+    ghost shown = { λ x. refl };
+
+    fn number(self) -> u8 {
         match self {
             Refusal::State => 1,
             Refusal::Argument => 2,
@@ -53,23 +60,11 @@ impl Refusal {
     }
 
     // A store's checks are layer 1, the session's own layer 2.
-    pub fn layer(self) -> u8
-        ensures { result ≡ layer self }
-    {
+    fn layer(self) -> u8 {
         match self {
             Refusal::Count | Refusal::Place | Refusal::Area | Refusal::Capacity => 1,
             Refusal::State | Refusal::Argument | Refusal::Presence => 2,
             Refusal::SpanTable | Refusal::Window | Refusal::Spans | Refusal::UndoList => 2,
-        }
-    }
-
-    // The fault of a call that this check refuses. Every fault of a session is built here.
-    pub fn at(self, place: usize) -> Fault
-        ensures { result ≡ fault_at self place }
-    {
-        Fault {
-            refusal: self,
-            place,
         }
     }
 }
@@ -108,30 +103,5 @@ impl fmt::Display for Refusal {
     }
 }
 
-// A refused call: by which check, and the call's place.
-#[derive(Clone, Copy, PartialEq, Eq, Debug)]
-pub struct Fault {
-    pub refusal: Refusal,
-    pub place: usize,
-}
-
-impl From<StoreFault> for Fault {
-    ghost from_gives = { λ f r. r ≡ lifted_fault f };
-
-    fn from(fault: StoreFault) -> Fault {
-        Refusal::from(fault.refusal).at(fault.place)
-    }
-}
-
-// As "8 (window), layer 2, place 99".
-impl fmt::Display for Fault {
-    ghost output = { λ x. Some (fault_form x) };
-
-    fn fmt<W: fmt::Write>(&self, f: &mut fmt::Formatter<W>) -> fmt::Result {
-        let refusal = self.refusal;
-        let number = refusal.number();
-        let layer = refusal.layer();
-        let place = self.place;
-        write!(f, "{number} ({refusal}), layer {layer}, place {place}")
-    }
-}
+// A refused call of a session: by which check, and the call's place.
+pub type Fault = store::faults::Fault<Refusal>;

@@ -14,6 +14,6 @@ mod markers;
 pub mod notes;
 pub mod record;
 mod span;
-mod spans;
+pub mod spans;
 #[cfg(test)]
 mod tests;

@@ -1,11 +1,12 @@
 // One marker: how an edit carries it, what a deletion notes of it, and how the inversion of that
-// deletion puts it back.
-ghost use Rattle.std.specs.Prelude.{◌≡◌, ◌+◌, ◌^◌, ◌<◌, ◌≤◌, true};
+// deletion puts it back. An edit's place p and count n are two numbers here, as in the rules: a type for
+// the two would be built at each call only to be taken apart in it.
+ghost use Rattle.std.specs.Prelude.{◌≡◌, ◌+◌, ◌^◌, ◌<◌, None, slice_index_or};
 ghost use Rattle.places.specs.Edits.{growth};
 ghost use Rattle.places.specs.Markers.{marker_inserted, marker_deleted, marker_after, noted, put_back};
-ghost use Rattle.places.specs.Near.{near};
 
 use crate::edit::Edit;
+use crate::notes::Notes;
 
 // Markers below this number stay when text is inserted at them; the others advance.
 const FIRST_ADVANCING: usize = 8;
@@ -51,25 +52,15 @@ pub(crate) fn note_one(p: usize, n: usize, m: usize) -> Option<usize>
     }
 }
 
-// A noted marker that stood at p goes to its distance from p; any other is carried.
-pub(crate) fn put_one_back(
-    p: usize,
-    n: usize,
-    number: usize,
-    note: Option<usize>,
-    m: usize,
-) -> usize
-    requires fits { m + n < 2 ^ 64 }
-    requires near { near n note ≡ true }
-    ensures { result ≡ put_back p n number note m }
+// The marker of this number, at m just before: where it was noted and stands at p, it goes to its
+// distance from p; else it is carried.
+pub(crate) fn put_one_back(p: usize, notes: Notes, number: usize, m: usize) -> usize
+    requires number { number < 16 }
+    requires fits { m + notes.count < 2 ^ 64 }
+    ensures { result ≡ put_back p notes.count number (slice_index_or notes.distances number None) m }
 {
-    match note {
-        Some(distance) => {
-            if m == p {
-                return p + distance;
-            }
-            marker_inserted(p, n, number, m)
-        }
-        None => marker_inserted(p, n, number, m),
+    match notes.distances[number] {
+        Some(distance) if m == p => p + distance,
+        _ => marker_inserted(p, notes.count, number, m),
     }
 }

@@ -1,58 +1,43 @@
 // The sixteen markers, each by its number.
-ghost use Rattle.std.specs.Prelude.{◌≡◌, ℕ, ◌+◌, ◌^◌, ◌<◌, ◌≤◌, min, true, None, slice_index, slice_index_or};
+ghost use Rattle.std.specs.Prelude.{◌≡◌, ℕ, ◌+◌, ◌^◌, ◌<◌, slice_index};
 ghost use Rattle.places.specs.Edits.{growth};
-ghost use Rattle.places.specs.Markers.{markers_after, markers_noted, markers_put_back, markers_within};
-ghost use Rattle.places.specs.Near.{near};
+ghost use Rattle.places.specs.Markers.{markers_after, markers_put_back, markers_within};
 
 use crate::edit::Edit;
-use crate::marker::{marker_after, note_one, put_one_back};
+use crate::marker::{marker_after, put_one_back};
+use crate::notes::Notes;
+
+// Each marker goes where `to` says. The loop has the marker's number beside its place, since by its
+// number a marker stays or advances.
+fn each_moved<F: Fn(usize, usize) -> usize>(markers: [usize; 16], to: F) -> [usize; 16]
+    requires { (k : ℕ) → k < 16 → F.pre to k (slice_index markers k) }
+    ensures { (k : ℕ) → k < 16 → F.post to k (slice_index markers k) (slice_index result k) }
+{
+    let mut moved = markers;
+    for (number, m) in markers.iter().enumerate() {
+        moved[number] = to(number, *m);
+    }
+    moved
+}
 
 pub(crate) fn markers_after(edit: Edit, markers: [usize; 16]) -> [usize; 16]
     requires { (k : ℕ) → k < 16 → slice_index markers k + growth edit < 2 ^ 64 }
     ensures { result ≡ markers_after edit markers }
 {
-    let mut out = [0usize; 16];
-    for (i, m) in markers.iter().enumerate() {
-        out[i] = marker_after(edit, i, *m);
-    }
-    out
+    each_moved(markers, |number, m| marker_after(edit, number, m))
 }
 
-pub(crate) fn note_markers(p: usize, n: usize, markers: [usize; 16]) -> [Option<usize>; 16]
-    ensures value { result ≡ markers_noted p n markers }
-    ensures near { (k : ℕ) → k < 16 → near n (slice_index_or result k None) ≡ true }
+// The markers after the inversion of a deletion at p, by its notes.
+pub(crate) fn markers_put_back(p: usize, notes: Notes, markers: [usize; 16]) -> [usize; 16]
+    requires { (k : ℕ) → k < 16 → slice_index markers k + notes.count < 2 ^ 64 }
+    ensures { result ≡ markers_put_back p notes.count notes.distances markers }
 {
-    let mut out = [None; 16];
-    for (i, m) in markers.iter().enumerate() {
-        out[i] = note_one(p, n, *m);
-    }
-    out
-}
-
-pub(crate) fn put_markers_back(
-    p: usize,
-    n: usize,
-    notes: [Option<usize>; 16],
-    markers: [usize; 16],
-) -> [usize; 16]
-    requires fits { (k : ℕ) → k < 16 → slice_index markers k + n < 2 ^ 64 }
-    requires near { (k : ℕ) → k < 16 → near n (slice_index_or notes k None) ≡ true }
-    ensures { result ≡ markers_put_back p n notes markers }
-{
-    let mut out = [0usize; 16];
-    for (i, m) in markers.iter().enumerate() {
-        out[i] = put_one_back(p, n, i, notes[i], *m);
-    }
-    out
+    each_moved(markers, |number, m| put_one_back(p, notes, number, m))
 }
 
 // Sixteen places, each cut to the length.
 pub(crate) fn markers_within(len: usize, markers: [usize; 16]) -> [usize; 16]
     ensures { result ≡ markers_within len markers }
 {
-    let mut out = [0usize; 16];
-    for (i, m) in markers.iter().enumerate() {
-        out[i] = (*m).min(len);
-    }
-    out
+    markers.map(|m| m.min(len))
 }

@@ -1,6 +1,9 @@
 // The markers, the spans and the window of a text, each within the text's length.
-ghost use Rattle.std.specs.Prelude.{ℕ, ◌+◌, ◌<◌, ◌≤◌, slice_index, slice_index_or};
-ghost use Rattle.places.specs.declared.record.Span.{Span};
+ghost use Rattle.std.specs.Prelude.{ℕ, ◌+◌, ◌<◌, ◌≤◌, slice_index};
+ghost use Rattle.std.specs.List.{All};
+ghost use Rattle.places.specs.Slots.{spans_of};
+
+use crate::spans::Spans;
 
 // The bytes from `start` up to `end`.
 #[derive(Clone, Copy, PartialEq, Eq, Debug)]
@@ -15,14 +18,11 @@ pub struct Places {
     // the text's length
     pub len: usize,
     pub markers: [usize; 16],
-    // the spans are the first `count` of these
-    pub spans: [Span; 8],
-    pub count: usize,
+    pub spans: Spans,
     // the window leaves out so many bytes at the text's front and at its end
     pub before: usize,
     pub behind: usize,
     ghost marked: { (k : ℕ) → k < 16 → slice_index markers k ≤ len },
-    ghost few: { count ≤ 8 },
-    ghost spanned: { (k : ℕ) (d : Span) → k < count → ((slice_index_or spans k d).start < (slice_index_or spans k d).end) × ((slice_index_or spans k d).end ≤ len) },
+    ghost spanned: { All (λ span. (span.start < span.end) × (span.end ≤ len)) (spans_of spans) },
     ghost window: { before + behind ≤ len },
 }

@@ -1,95 +1,78 @@
 // One read-only span: how an edit carries it, and whether an edit meets it.
 ghost use Rattle.std.specs.Prelude.{◌≡◌, ◌+◌, ◌^◌, ◌<◌, ◌≤◌};
 ghost use Rattle.places.specs.Edits.{growth};
-ghost use Rattle.places.specs.Spans.{span_inserted, span_deleted, span_after, call_meets, undo_meets, insertion_meets, deletion_meets, meets, inside};
+ghost use Rattle.places.specs.Spans.{span_after, call_meets, undo_meets, insertion_meets, deletion_meets, meets, inside};
 
 use crate::edit::{Edit, Origin};
 use crate::record::Span;
 
-// A span at or behind the place of an insertion moves with its text; an earlier one stays.
-fn span_inserted(p: usize, n: usize, span: Span) -> Span
-    requires forward { span.start ≤ span.end }
-    requires fits { span.end + n < 2 ^ 64 }
-    ensures { result ≡ span_inserted p n span }
-{
-    if p <= span.start {
-        Span {
-            start: span.start + n,
-            end: span.end + n,
+impl Span {
+    pub(crate) fn after(self, edit: Edit) -> Span
+        requires forward { self.start ≤ self.end }
+        requires fits { self.end + growth edit < 2 ^ 64 }
+        ensures { result ≡ span_after edit self }
+    {
+        match edit {
+            // at or behind the place of an insertion it moves with its text
+            Edit::Insertion { place, count } if place <= self.start => Span {
+                start: self.start + count,
+                end: self.end + count,
+            },
+            // behind a deleted range too
+            Edit::Deletion { place, count } if place <= self.start && count <= self.start - place =>
+                Span {
+                    start: self.start - count,
+                    end: self.end - count,
+                },
+            // an earlier one stays
+            _ => self,
         }
-    } else {
-        span
     }
-}
 
-// A span behind the deleted range moves with its text; an earlier one stays.
-fn span_deleted(p: usize, n: usize, span: Span) -> Span
-    requires { span.start ≤ span.end }
-    ensures { result ≡ span_deleted p n span }
-{
-    if p <= span.start && n <= span.start - p {
-        Span {
-            start: span.start - n,
-            end: span.end - n,
+    // An insert call meets a span that has its place inside. The rule of an undo says the same today,
+    // and each stands in its own words, so that one can change alone.
+    fn meets_call(self, p: usize) -> bool
+        ensures { result ≡ call_meets p self }
+    {
+        self.start < p && p < self.end
+    }
+
+    // An insertion that an undo makes meets a span that has its place inside.
+    fn meets_undo(self, p: usize) -> bool
+        ensures { result ≡ undo_meets p self }
+    {
+        self.start < p && self.end > p
+    }
+
+    fn meets_insertion(self, origin: Origin, p: usize) -> bool
+        ensures { result ≡ insertion_meets origin p self }
+    {
+        match origin {
+            Origin::Call => self.meets_call(p),
+            Origin::Undo => self.meets_undo(p),
         }
-    } else {
-        span
     }
-}
 
-pub(crate) fn span_after(edit: Edit, span: Span) -> Span
-    requires forward { span.start ≤ span.end }
-    requires fits { span.end + growth edit < 2 ^ 64 }
-    ensures { result ≡ span_after edit span }
-{
-    match edit {
-        Edit::Insertion { place, count } => span_inserted(place, count, span),
-        Edit::Deletion { place, count } => span_deleted(place, count, span),
+    // A deletion meets a span that it shares a byte with.
+    fn meets_deletion(self, p: usize, n: usize) -> bool
+        ensures { result ≡ deletion_meets p n self }
+    {
+        n > 0 && p < self.end && (self.start < p || self.start - p < n)
     }
-}
 
-// An insert call meets a span that has its place inside.
-fn call_meets(p: usize, span: Span) -> bool
-    ensures { result ≡ call_meets p span }
-{
-    span.start < p && p < span.end
-}
-
-// An insertion that an undo makes meets a span that has its place inside.
-fn undo_meets(p: usize, span: Span) -> bool
-    ensures { result ≡ undo_meets p span }
-{
-    span.start < p && span.end > p
-}
-
-fn insertion_meets(origin: Origin, p: usize, span: Span) -> bool
-    ensures { result ≡ insertion_meets origin p span }
-{
-    match origin {
-        Origin::Call => call_meets(p, span),
-        Origin::Undo => undo_meets(p, span),
+    pub(crate) fn meets(self, origin: Origin, edit: Edit) -> bool
+        ensures { result ≡ meets origin edit self }
+    {
+        match edit {
+            Edit::Insertion { place, .. } => self.meets_insertion(origin, place),
+            Edit::Deletion { place, count } => self.meets_deletion(place, count),
+        }
     }
-}
 
-// A deletion meets a span that it shares a byte with.
-fn deletion_meets(p: usize, n: usize, span: Span) -> bool
-    ensures { result ≡ deletion_meets p n span }
-{
-    n > 0 && p < span.end && (span.start < p || span.start - p < n)
-}
-
-pub(crate) fn meets(origin: Origin, edit: Edit, span: Span) -> bool
-    ensures { result ≡ meets origin edit span }
-{
-    match edit {
-        Edit::Insertion { place, count: _ } => insertion_meets(origin, place, span),
-        Edit::Deletion { place, count } => deletion_meets(place, count, span),
+    // Whether it lies wholly in the range from s to e.
+    pub(crate) fn inside(self, s: usize, e: usize) -> bool
+        ensures { result ≡ inside s e self }
+    {
+        s <= self.start && self.end <= e
     }
-}
-
-// Whether a span lies wholly in the range from s to e.
-pub(crate) fn inside(s: usize, e: usize, span: Span) -> bool
-    ensures { result ≡ inside s e span }
-{
-    s <= span.start && span.end <= e
 }

@@ -1,65 +1,92 @@
-// The spans of a record: the first `count` of eight slots.
-ghost use Rattle.std.specs.Prelude.{◌≡◌, ℕ, ◌+◌, ◌^◌, ◌<◌, ◌≤◌, not, map, take, filter, slice_index_or};
-ghost use Rattle.places.specs.Edits.{growth};
-ghost use Rattle.places.specs.Spans.{span_after, meets, inside, some_span};
-ghost use Rattle.places.specs.declared.record.Span.{Span};
+// The spans of a record, in the order in which they were added.
+ghost use Rattle.std.specs.Prelude.{◌≤◌};
 
 use crate::edit::{Edit, Origin};
 use crate::record::Span;
-use crate::span::{inside, meets, span_after};
 
-pub(crate) fn spans_after(edit: Edit, spans: [Span; 8], count: usize) -> [Span; 8]
-    requires few { count ≤ 8 }
-    requires fits { (k : ℕ) (d : Span) → k < count → ((slice_index_or spans k d).start ≤ (slice_index_or spans k d).end) × ((slice_index_or spans k d).end + growth edit < 2 ^ 64) }
-    ensures { take count result ≡ map (span_after edit) (take count spans) }
-{
-    let mut out = spans;
-    for i in 0..count {
-        out[i] = span_after(edit, spans[i]);
-    }
-    out
+// At most eight spans. The slots are an array by value, and no vector of a library, since a record of
+// places is a plain value that is copied, with no heap. Clauses read the spans by `spans_of`, and not by
+// a model of the type: a type whose model forgets the free slots cannot be copied.
+#[derive(Clone, Copy)]
+pub struct Spans {
+    // the spans are the first `count` of these
+    slots: [Span; 8],
+    count: usize,
+    ghost few: { count ≤ 8 },
 }
 
-// Whether the edit meets one of the spans.
-pub(crate) fn meets_some(origin: Origin, edit: Edit, spans: [Span; 8], count: usize) -> bool
-    requires { count ≤ 8 }
-    ensures { result ≡ some_span (meets origin edit) (take count spans) }
-{
-    for i in 0..count {
-        if meets(origin, edit, spans[i]) {
-            return true;
-        }
-    }
-    false
-}
+impl Spans {
+    ghost use Rattle.std.specs.Prelude.{◌≡◌, ◌+◌, ◌^◌, ◌<◌, not, [], ◌∷◌, ◌++◌, length, map, filter};
+    ghost use Rattle.std.specs.List.{All};
+    ghost use Rattle.places.specs.Edits.{growth};
+    ghost use Rattle.places.specs.Slots.{spans_of};
+    ghost use Rattle.places.specs.Spans.{span_after, meets, inside, some_span};
 
-// Whether one of the spans lies wholly in the range from s to e.
-pub(crate) fn some_inside(s: usize, e: usize, spans: [Span; 8], count: usize) -> bool
-    requires { count ≤ 8 }
-    ensures { result ≡ some_span (inside s e) (take count spans) }
-{
-    for i in 0..count {
-        if inside(s, e, spans[i]) {
-            return true;
+    pub(crate) fn new() -> Spans
+        ensures { spans_of result ≡ [] }
+    {
+        Spans {
+            slots: [Span { start: 0, end: 0 }; 8],
+            count: 0,
         }
     }
-    false
-}
 
-// The spans that do not lie wholly in the range from s to e, in their order, and how many they are.
-pub(crate) fn keep_others(s: usize, e: usize, spans: [Span; 8], count: usize) -> ([Span; 8], usize)
-    requires { count ≤ 8 }
-    ensures kept { take result.1 result.0 ≡ filter (λ span. not (inside s e span)) (take count spans) }
-    ensures fewer { result.1 ≤ count }
-{
-    let mut out = spans;
-    let mut left = 0;
-    for i in 0..count {
-        let span = out[i];
-        if !inside(s, e, span) {
-            out[left] = span;
-            left += 1;
-        }
+    pub fn as_slice(&self) -> &[Span]
+        ensures { result.now ≡ spans_of self.now }
+    {
+        &self.slots[..self.count]
     }
-    (out, left)
+
+    pub fn len(&self) -> usize
+        ensures { result ≡ length (spans_of self.now) }
+    {
+        self.as_slice().len()
+    }
+
+    pub(crate) fn push(&mut self, span: Span)
+        requires free { length (spans_of self.old) < 8 }
+        ensures { spans_of self.new ≡ spans_of self.old ++ span ∷ [] }
+    {
+        self.slots[self.count] = span;
+        self.count += 1;
+    }
+
+    // Each span as the edit leaves it.
+    pub(crate) fn after(self, edit: Edit) -> Spans
+        requires { All (λ span. (span.start ≤ span.end) × (span.end + growth edit < 2 ^ 64)) (spans_of self) }
+        ensures { spans_of result ≡ map (span_after edit) (spans_of self) }
+    {
+        let mut after = Spans::new();
+        for span in self.as_slice() {
+            after.push(span.after(edit));
+        }
+        after
+    }
+
+    // Whether the edit meets one of the spans.
+    pub(crate) fn any_meets(&self, origin: Origin, edit: Edit) -> bool
+        ensures { result ≡ some_span (meets origin edit) (spans_of self.now) }
+    {
+        self.as_slice().iter().any(|span| span.meets(origin, edit))
+    }
+
+    // Whether one of the spans lies wholly in the range from s to e.
+    pub(crate) fn any_inside(&self, s: usize, e: usize) -> bool
+        ensures { result ≡ some_span (inside s e) (spans_of self.now) }
+    {
+        self.as_slice().iter().any(|span| span.inside(s, e))
+    }
+
+    // The spans that do not lie wholly in the range from s to e, in their order.
+    pub(crate) fn without_inside(self, s: usize, e: usize) -> Spans
+        ensures { spans_of result ≡ filter (λ span. not (inside s e span)) (spans_of self) }
+    {
+        let mut others = Spans::new();
+        for span in self.as_slice() {
+            if !span.inside(s, e) {
+                others.push(*span);
+            }
+        }
+        others
+    }
 }

@@ -1,6 +1,6 @@
 // The worked examples, and the edges of the rules.
 use crate::edit::{Check, Edit, Origin};
-use crate::faults::{Fault, Refusal};
+use crate::faults::{Fault, Refusal, Refuses};
 use crate::record::{Places, Span};
 use std::test::Fail;
 
@@ -49,17 +49,14 @@ fn edits_of_six_bytes(rt: HostRuntime) -> Result<(), Fail> {
             refusal(guarded.check_all(Check::Spans(Origin::Undo), &[edit])),
             met
         );
-        let span = guarded.after(edit).spans[0];
-        assert_eq!(rt; span, Span { start, end });
+        let spans = guarded.after(edit).spans;
+        assert_eq!(rt; spans.as_slice(), [Span { start, end }].as_slice());
     }
     Ok(())
 }
 
-fn refusal(r: Result<(), Fault>) -> Option<Refusal> {
-    match r {
-        Ok(_) => None,
-        Err(fault) => Some(fault.refusal),
-    }
+fn refusal(answer: Result<(), Fault>) -> Option<Refusal> {
+    answer.err().map(|fault| fault.refusal)
 }
 
 // A marker at each place around a deletion of 4 at 1, the deletion, and its inversion; and all
@@ -89,9 +86,9 @@ fn markers_around_edits(rt: HostRuntime) -> Result<(), Fail> {
 #[test]
 fn refused_calls(rt: HostRuntime) -> Result<(), Fail> {
     let three = Places::new(8).protect(1, 3)?.protect(2, 5)?.protect(5, 6)?;
-    assert_eq!(rt; three.unprotect(1, 5)?.count, 1);
-    let span = three.unprotect(1, 5)?.spans[0];
-    assert_eq!(rt; span, Span { start: 5, end: 6 });
+    let left = three.unprotect(1, 5)?.spans;
+    assert_eq!(rt; left.len(), 1);
+    assert_eq!(rt; left.as_slice(), [Span { start: 5, end: 6 }].as_slice());
     let five = three.protect(0, 1)?.protect(0, 1)?;
     let eight = five.protect(0, 1)?.protect(0, 1)?.protect(0, 1)?;
     let table = [
@@ -105,18 +102,11 @@ fn refused_calls(rt: HostRuntime) -> Result<(), Fail> {
         (eight.narrow(5, 4), Refusal::Place.at(5)),
     ];
     for (answer, fault) in table {
-        assert_eq!(rt; fault_of(answer), Some(fault));
+        assert_eq!(rt; answer.err(), Some(fault));
     }
-    let lifted = Fault::from(store::faults::Refusal::Area.at(2));
+    let lifted: Fault = store::faults::Refusal::Area.at(2).lift();
     assert_eq!(rt; lifted, Refusal::Area.at(2));
     Ok(())
-}
-
-fn fault_of(r: Result<Places, Fault>) -> Option<Fault> {
-    match r {
-        Ok(_) => None,
-        Err(fault) => Some(fault),
-    }
 }
 
 // An empty window, and runs of edits: in the first the last edit reaches outside, and the first

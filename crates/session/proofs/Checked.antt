@@ -1,9 +1,8 @@
 -- A call that a later check refuses. Assumes nothing.
 use Rattle.std.proofs.Common.{◌≡◌, ℕ, Some, None, Err, Option, Result, refl}
-use Rattle.places.specs.declared.faults.Fault.{Fault}
 use Rattle.places.specs.declared.faults.Refusal.{Refusal}
-use Rattle.places.specs.Refusals.{answer, outcome}
-use Rattle.undo_list.specs.Limits.{unless}
+use Rattle.places.specs.Refusals.{outcome, Fault}
+use Rattle.store.specs.Edits.{answer, unless}
 use Rattle.turns.specs.Checks.{or_else}
 
 -- The fault of the second check is that of the call, which leaves the world.

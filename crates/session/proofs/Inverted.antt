@@ -6,12 +6,12 @@ use Rattle.undo_list.specs.declared.entry.Entry.{Entry}
 use Rattle.undo_list.specs.declared.kind.Kind.TheVariants.{Insertion, Deletion}
 use Rattle.undo_list.specs.Kinds.{kept_of}
 use Rattle.undo_list.specs.Groups.{Held, PutIn, Took}
-use Rattle.undo_list.specs.Spell.{held, held_as, read_as, kept_count, nothing}
+use Rattle.undo_list.specs.Spell.{held, held_as, kept_count, nothing}
 use Rattle.session.specs.Admitted.{AdmitsOne, Removable, Returnable}
 use Rattle.session.specs.Undo.{invert}
 use Rattle.session.specs.World.{World, deleted, put_back}
 
-module _ (hs : List Held) (i : ℕ) (e : Entry) (kept : List ℕ) (there : i < length hs) (is : read_as (Some e) kept ≡ slice_get hs i) where
+module _ (hs : List Held) (i : ℕ) (e : Entry) (kept : List ℕ) (there : i < length hs) (is : Some (held e kept) ≡ slice_get hs i) where
   entry_held : held e kept ≡ get_or hs i nothing
   entry_held = let found = slice_get-get_or hs i nothing there in cc
 
@@ -37,5 +37,5 @@ pub deletion_counts : (e : Entry) (d : List (Option ℕ)) (kept : List ℕ) → 
 deletion_counts e d kept k h = sym (h ∙ ap (λ x. kept_of x e.count) k)
 
 -- An entry that is there is read.
-pub none_there : (hs : List Held) (i : ℕ) (kept : List ℕ) → i < length hs → read_as None kept ≡ slice_get hs i → ⊥
-none_there hs i kept there is = let found = slice_get-get_or hs i nothing there in let z : ◌≡◌ {A = ℕ} 0 1 = cc in omega arith
+pub none_there : (hs : List Held) (i : ℕ) → i < length hs → None ≡ slice_get hs i → ⊥
+none_there hs i there is = let found = slice_get-get_or hs i nothing there in let z : ◌≡◌ {A = ℕ} 0 1 = cc in omega arith

@@ -7,7 +7,7 @@ use Rattle.places.specs.declared.edit.Check.TheVariants.{Place, Window, Spans}
 use Rattle.places.specs.declared.edit.Edit.{Edit}
 use Rattle.places.specs.declared.edit.Edit.TheVariants.{Insertion, Deletion}
 use Rattle.places.specs.declared.edit.Origin.TheVariants.{Undo}
-use Rattle.places.specs.declared.faults.Fault.{Fault}
+use Rattle.places.specs.Refusals.{Fault}
 use Rattle.places.specs.declared.faults.Refusal.{Refusal}
 use Rattle.places.specs.Carry.{fits, carried, after, restored, deletion_inverted}
 use Rattle.places.specs.DryRun.{edit_check, sight, put_to_all, EachFits, growth_of_all}

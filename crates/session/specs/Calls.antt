@@ -9,7 +9,8 @@ use Rattle.places.specs.Calls.{with_marker, protected, unprotected, narrowed, wi
 use Rattle.places.specs.Model.{Model}
 use Rattle.places.specs.Checks.{set_check, range_check, protect_check, unprotect_check, place_check, window_check, span_check}
 use Rattle.undo_list.specs.Groups.{after_close, trimmed}
-use Rattle.undo_list.specs.Limits.{count_check, entry_check, trim_check, unless}
+use Rattle.undo_list.specs.Limits.{count_check, entry_check, trim_check}
+use Rattle.store.specs.Edits.{unless}
 use Rattle.turns.specs.Checks.{or_else, room_check}
 use Rattle.session.specs.declared.state.Kind.{Kind}
 use Rattle.session.specs.declared.state.Kind.TheVariants.{Insert, Delete, Set, Boundary, Trim, Protect, Unprotect, Narrow, Widen}

@@ -1,8 +1,7 @@
 -- Change groups: a change is opened, and accepted or cancelled. Assumes nothing.
 use Rattle.std.specs.Prelude.{ℕ, List, [], ◌∷◌, length}
-use Rattle.store.specs.Edits.{inserted_at, deleted_at}
+use Rattle.store.specs.Edits.{inserted_at, deleted_at, unless}
 use Rattle.undo_list.specs.Groups.{Held, PutIn, Took}
-use Rattle.undo_list.specs.Limits.{unless}
 use Rattle.session.specs.declared.state.State.TheVariants.{Rest, Change}
 use Rattle.session.specs.declared.state.Kind.TheVariants.{Open, Accept, Cancel}
 use Rattle.session.specs.States.{state_check}

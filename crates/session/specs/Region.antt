@@ -1,6 +1,6 @@
 -- Undo in a region. Assumes nothing.
 use Rattle.std.specs.Prelude.{ℕ, Bool, true, false, cond, List, [], ◌∷◌, map, reverse, length, Some, None, Option, ◌==◌, nat_lt}
-use Rattle.places.specs.declared.faults.Fault.{Fault}
+use Rattle.places.specs.Refusals.{Fault}
 use Rattle.places.specs.declared.faults.Refusal.{Refusal}
 use Rattle.places.specs.declared.faults.Refusal.TheVariants.{Argument}
 use Rattle.places.specs.Checks.{range_check, region_check}

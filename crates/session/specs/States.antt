@@ -1,10 +1,10 @@
 -- The table of states and calls: the state after a call that passes every other check, or none where
 -- the state does not admit the call. Assumes nothing.
 use Rattle.std.specs.Prelude.{ℕ, Some, None, Ok, Err, Option, Result}
-use Rattle.places.specs.declared.faults.Fault.{Fault}
+use Rattle.places.specs.Refusals.{Fault}
 use Rattle.places.specs.declared.faults.Refusal.{Refusal}
 use Rattle.places.specs.declared.faults.Refusal.TheVariants as refusal
-use Rattle.places.specs.Refusals.{fault_at}
+use Rattle.store.specs.Refusals.{fault_at}
 use Rattle.session.specs.declared.state.State.{State}
 use Rattle.session.specs.declared.state.State.TheVariants.{Rest, Chain, Change}
 use Rattle.session.specs.declared.state.Kind.{Kind}

@@ -3,7 +3,7 @@
 use Rattle.std.specs.Prelude.{ℕ, ◌+◌, ◌-◌, Bool, cond, ◌&&◌, List, [], ◌∷◌, ◌++◌, map, length, take, Some, None, Option, nat_le, nat_lt, slice_index, slice_index_or}
 use Rattle.places.specs.declared.edit.Edit.{Edit}
 use Rattle.places.specs.declared.edit.Edit.TheVariants.{Insertion, Deletion}
-use Rattle.places.specs.declared.faults.Fault.{Fault}
+use Rattle.places.specs.Refusals.{Fault}
 use Rattle.places.specs.declared.faults.Refusal.{Refusal}
 use Rattle.places.specs.declared.faults.Refusal.TheVariants.{Presence}
 use Rattle.undo_list.specs.Groups.{Held, PutIn, Took, after_close, groups_in}

@@ -28,7 +28,7 @@ unfoldable pub new_world : List ℕ → ℕ → World
 new_world text room = record { text = text; room = room; places = fresh (length text); groups = no_groups; state = Rest; made = []; noted = fresh 0 }
 
 -- A record of places for a text of n bytes: one that was made for another length counts for nothing.
--- No run of calls leads to such a session.
+-- No run of calls leads to such a record.
 unfoldable pub fitted : ℕ → Model → Model
 fitted n m = cond (m.len == n) m (fresh n)
 

@@ -4,7 +4,7 @@ ghost use Rattle.places.specs.declared.edit.Edit.TheVariants.{Deletion};
 ghost use Rattle.places.specs.declared.edit.Origin.TheVariants.{Call};
 ghost use Rattle.places.specs.Checks.{in_window};
 ghost use Rattle.places.specs.Model.{model};
-ghost use Rattle.places.specs.Refusals.{answer};
+ghost use Rattle.store.specs.Edits.{answer};
 ghost use Rattle.places.specs.Spans.{meets, some_span};
 ghost use Rattle.session.specs.Calls.{insertion_check, insertion_checks, deletion_check, deletion_checks};
 ghost use Rattle.session.specs.Passes.{Insertable, Deletable};
@@ -16,9 +16,10 @@ use turns::room::check_room;
 use undo_list::limits::check_count;
 
 // An insertion of n bytes at p: count, place, window, spans, capacity.
-fn check_insertion(places: Places, room: usize, p: usize, n: usize) -> Result<(), Fault>
-    ensures value { result ≡ answer (insertion_checks (model places) room p n) p }
-    ensures passed { OnOk result ((insertion_checks (model places) room p n ≡ None) × (1 ≤ n) × (n ≤ 4096) × (p ≤ places.len) × (places.len + n ≤ room)) }
+#[tactic(auto, unfolding(crate::specs::Calls::insertion_check))]
+pub(crate) fn admit_insertion(places: Places, room: usize, p: usize, n: usize) -> Result<(), Fault>
+    ensures value { result ≡ answer (insertion_check (model places) room p n) p }
+    ensures passed { OnOk result (Insertable (model places) room p n) }
 {
     let insertion = Edit::Insertion { place: p, count: n };
     check_count(n, p)?;
@@ -29,29 +30,14 @@ fn check_insertion(places: Places, room: usize, p: usize, n: usize) -> Result<()
 }
 
 // A deletion of n bytes from p on: count, place, window, spans.
-fn check_deletion(places: Places, p: usize, n: usize) -> Result<(), Fault>
-    ensures value { result ≡ answer (deletion_checks (model places) p n) p }
-    ensures passed { OnOk result ((deletion_checks (model places) p n ≡ None) × (1 ≤ n) × (n ≤ 4096) × (p + n ≤ places.len) × (in_window (model places) (Deletion p n) ≡ true) × (some_span (meets Call (Deletion p n)) (model places).spans ≡ false)) }
+#[tactic(auto, unfolding(crate::specs::Calls::deletion_check))]
+pub(crate) fn admit_deletion(places: Places, p: usize, n: usize) -> Result<(), Fault>
+    ensures value { result ≡ answer (deletion_check (model places) p n) p }
+    ensures passed { OnOk result (Deletable (model places) p n) }
 {
     let deletion = Edit::Deletion { place: p, count: n };
     check_count(n, p)?;
     places.check_place(deletion)?;
     places.check_window(deletion)?;
     places.check_spans(Origin::Call, deletion)
-}
-
-// What the text asks of an insertion, as a whole.
-pub(crate) fn admit_insertion(places: Places, room: usize, p: usize, n: usize) -> Result<(), Fault>
-    ensures value { result ≡ answer (insertion_check (model places) room p n) p }
-    ensures passed { OnOk result (Insertable (model places) room p n) }
-{
-    check_insertion(places, room, p, n)
-}
-
-// What the text asks of a deletion, as a whole.
-pub(crate) fn admit_deletion(places: Places, p: usize, n: usize) -> Result<(), Fault>
-    ensures value { result ≡ answer (deletion_check (model places) p n) p }
-    ensures passed { OnOk result (Deletable (model places) p n) }
-{
-    check_deletion(places, p, n)
 }

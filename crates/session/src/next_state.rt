@@ -3,7 +3,7 @@ ghost use Rattle.std.specs.Prelude.{◌≡◌, ◌+◌, ◌≤◌, IfOk, None};
 ghost use Rattle.session.specs.States.{next_of, next_in, state_check, state_answer, below, led_below};
 
 use crate::state::{Kind, State};
-use places::faults::{Fault, Refusal};
+use places::faults::{Fault, Refusal, Refuses};
 
 // State: an open change admits insert, delete, set, accept, cancel and the questions alone; accept and
 // cancel want one. Every accepted call but undo, redo, boundary, replay and the questions ends a

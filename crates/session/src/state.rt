@@ -1,7 +1,7 @@
 // A session rests, stands in a chain of undos and redos, or has a change open; and the calls, as far
 // as this matters for them.
 
-#[derive(Clone, Copy)]
+#[derive(Clone, Copy, PartialEq, Eq, Debug)]
 pub enum State {
     Rest,
     // at a place: so many groups are below it
@@ -9,7 +9,7 @@ pub enum State {
     Change,
 }
 
-#[derive(Clone, Copy)]
+#[derive(Clone, Copy, PartialEq, Eq, Debug)]
 pub enum Kind {
     Insert,
     Delete,

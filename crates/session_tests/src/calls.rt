@@ -7,6 +7,7 @@ use std::test::Fail;
 use store::checks::MAX_COUNT;
 use store::text_store::TextStore;
 
+// Bytes by their number alone, and areas by their length, so that a table stays one line to a call.
 #[derive(Clone, Copy)]
 pub enum Call {
     // so many bytes at a place
@@ -33,16 +34,13 @@ pub type View = ([u8; 8], [usize; 16], (usize, usize), [usize; 3]);
 // A session over the store, into which "abcdef" was put first.
 pub fn session_over<S: TextStore + Drop>(heap: Global, mut store: S) -> Result<Session<S>, Fail> {
     store.insert(0, b"abcdef")?;
-    match Session::new(heap, store) {
-        Ok(session) => Ok(session),
-        Err(_) => Err(Fail::new("memory is wanting")),
-    }
+    Session::new(heap, store).map_err(|_| Fail::new("memory is wanting"))
 }
 
 pub fn view_of<S: TextStore>(session: &Session<S>) -> View {
     let mut text = [b'.'; 8];
-    for p in 0..8 {
-        text[p] = session.byte_at(p).unwrap_or(b'.');
+    for (p, byte) in text.iter_mut().enumerate() {
+        *byte = session.byte_at(p).unwrap_or(b'.');
     }
     let counts = [session.spans(), session.entries(), session.groups()];
     (text, session.markers(), session.window(), counts)
@@ -50,10 +48,8 @@ pub fn view_of<S: TextStore>(session: &Session<S>) -> View {
 
 fn copy_fault<S: TextStore>(session: &Session<S>, p: usize, n: usize, len: usize) -> Option<Fault> {
     let mut area = [0; 8];
-    match session.copy(p, n, &mut area[0..len.min(8)]) {
-        Ok(_) => None,
-        Err(fault) => Some(Fault::from(fault)),
-    }
+    let copied = session.copy(p, n, &mut area[0..len.min(8)]);
+    copied.err().map(|fault| fault.lift())
 }
 
 // Does the call. Inserted bytes are all "x".

@@ -1,5 +1,5 @@
 // The numbers and layers of the refusals, and which calls each state admits.
-use places::faults::{Fault, Refusal};
+use places::faults::{Refusal, Refuses};
 use session::next_state::next_state;
 use session::state::{Kind, State};
 
@@ -23,58 +23,35 @@ fn numbers_and_layers(rt: HostRuntime) {
     }
 }
 
-// Where a call leads, or its fault.
-#[derive(Clone, Copy, PartialEq, Eq, Debug)]
-enum Next {
-    Rest,
-    Chain(usize),
-    Change,
-    Refused(Fault),
-}
-
-// From the state on, by a call at place 9.
-fn led_to(state: State, call: Kind) -> Next {
-    match next_state(state, call, 9) {
-        Ok(State::Rest) => Next::Rest,
-        Ok(State::Chain { place }) => Next::Chain(place),
-        Ok(State::Change) => Next::Change,
-        Err(fault) => Next::Refused(fault),
-    }
-}
-
-// Each call with where it leads from a change, from a chain at 3, and from rest.
+// Each call at place 9, with where it leads from a change, from a chain at 3, and from rest.
 #[test]
 fn states_and_calls(rt: HostRuntime) {
-    let no = Next::Refused(Refusal::State.at(9));
+    let no = Err(Refusal::State.at(9));
+    let [rest, change] = [Ok(State::Rest), Ok(State::Change)];
+    let [at_two, at_three, at_four] = [2, 3, 4].map(|place| Ok(State::Chain { place }));
     let table = [
-        (Kind::Insert, [Next::Change, Next::Rest, Next::Rest]),
-        (Kind::Delete, [Next::Change, Next::Rest, Next::Rest]),
-        (Kind::Set, [Next::Change, Next::Rest, Next::Rest]),
-        (Kind::Question, [Next::Change, Next::Chain(3), Next::Rest]),
-        (Kind::Accept, [Next::Rest, no, no]),
-        (Kind::Cancel, [Next::Rest, no, no]),
-        (Kind::Boundary, [no, Next::Chain(3), Next::Rest]),
-        (Kind::Replay, [no, Next::Chain(3), Next::Rest]),
-        (
-            Kind::Undo { place: 2 },
-            [no, Next::Chain(2), Next::Chain(2)],
-        ),
-        (
-            Kind::Redo { place: 4 },
-            [no, Next::Chain(4), Next::Chain(4)],
-        ),
-        (Kind::Open, [no, Next::Change, Next::Change]),
-        (Kind::RegionUndo, [no, Next::Rest, Next::Rest]),
-        (Kind::Trim, [no, Next::Rest, Next::Rest]),
-        (Kind::Protect, [no, Next::Rest, Next::Rest]),
-        (Kind::Unprotect, [no, Next::Rest, Next::Rest]),
-        (Kind::Narrow, [no, Next::Rest, Next::Rest]),
-        (Kind::Widen, [no, Next::Rest, Next::Rest]),
+        (Kind::Insert, [change, rest, rest]),
+        (Kind::Delete, [change, rest, rest]),
+        (Kind::Set, [change, rest, rest]),
+        (Kind::Question, [change, at_three, rest]),
+        (Kind::Accept, [rest, no, no]),
+        (Kind::Cancel, [rest, no, no]),
+        (Kind::Boundary, [no, at_three, rest]),
+        (Kind::Replay, [no, at_three, rest]),
+        (Kind::Undo { place: 2 }, [no, at_two, at_two]),
+        (Kind::Redo { place: 4 }, [no, at_four, at_four]),
+        (Kind::Open, [no, change, change]),
+        (Kind::RegionUndo, [no, rest, rest]),
+        (Kind::Trim, [no, rest, rest]),
+        (Kind::Protect, [no, rest, rest]),
+        (Kind::Unprotect, [no, rest, rest]),
+        (Kind::Narrow, [no, rest, rest]),
+        (Kind::Widen, [no, rest, rest]),
     ];
     for (call, expected) in table {
-        let in_change = led_to(State::Change, call);
-        let in_chain = led_to(State::Chain { place: 3 }, call);
-        let at_rest = led_to(State::Rest, call);
+        let in_change = next_state(State::Change, call, 9);
+        let in_chain = next_state(State::Chain { place: 3 }, call, 9);
+        let at_rest = next_state(State::Rest, call, 9);
         assert_eq!(rt; [in_change, in_chain, at_rest], expected);
     }
 }

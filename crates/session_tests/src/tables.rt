@@ -2,7 +2,7 @@
 use crate::calls::{Call, run, session_over, view_of};
 use gap_buffer::GapBuffer;
 use piece_table::PieceTable;
-use places::faults::Refusal;
+use places::faults::{Refusal, Refuses};
 use session::session::Session;
 use std::alloc::Global;
 use std::process::Abort;

@@ -28,12 +28,12 @@ copy_check len p n area =
     (cond (nat_lt area n) (Some Area) None)
 
 -- The answer to a check: nothing, or the fault at the call's place.
-abbrev pub answer : Option Refusal → ℕ → Result (Unit {0}) Fault
+abbrev pub answer : {R : Type 0} → Option R → ℕ → Result (Unit {0}) (Fault R)
 answer None p = Ok tt
 answer (Some why) p = Err (fault_at why p)
 
 -- A refused call leaves what there was.
-abbrev pub unless : {A : Type 0} → Option Refusal → A → A → A
+abbrev pub unless : {R A : Type 0} → Option R → A → A → A
 unless None new old = new
 unless (Some why) new old = old
 

@@ -18,5 +18,6 @@ layer Place = 1
 layer Area = 1
 layer Capacity = 1
 
-abbrev pub fault_at : Refusal → ℕ → Fault
+-- The fault of a call that a check refuses, whatever layer the check is of.
+abbrev pub fault_at : {R : Type 0} → R → ℕ → Fault R
 fault_at why p = record { refusal = why; place = p }

@@ -1,9 +1,68 @@
-// How a text store refuses a call: by which check, and at which place.
-ghost use Rattle.std.specs.Prelude.{◌≡◌, Some};
+// How a layer refuses a call: by which check, and at which place.
+ghost use Rattle.std.specs.Prelude.{◌≡◌, ℕ, List, Some, refl};
 ghost use Rattle.store.specs.Refusals.{number, layer, fault_at};
-ghost use Rattle.store.specs.Shown.{check_name, fault_form};
+ghost use Rattle.store.specs.Shown.{check_name, shown_fault};
 
 use std::fmt;
+
+// What a layer refuses a call by. Each check has a number and a name in the table of refusals, and
+// belongs to a layer.
+pub trait Refuses: Copy + fmt::Display {
+    ghost number: { Self → ℕ };
+
+    ghost layer: { Self → ℕ };
+
+    ghost name: { Self → List ℕ };
+
+    fn number(self) -> u8
+        ensures { result ≡ number self };
+
+    fn layer(self) -> u8
+        ensures { result ≡ layer self };
+
+    // The fault of a call that this check refuses. Every fault is built here.
+    fn at(self, place: usize) -> Fault<Self>
+        ensures { result ≡ fault_at self place }
+    {
+        Fault {
+            refusal: self,
+            place,
+        }
+    }
+
+    // It is printed as its name.
+    ghost shown: { (x : Self) → Self.output x ≡ Some (name x) };
+}
+
+// A refused call: by which check, and the call's place.
+#[derive(Clone, Copy, PartialEq, Eq, Debug)]
+pub struct Fault<R> {
+    pub refusal: R,
+    pub place: usize,
+}
+
+impl<R> Fault<R> {
+    // The same fault as one of a layer above, whose checks have those of this layer among them.
+    pub fn lift<T: Refuses + From<R>>(self) -> Fault<T>
+        ensures refusal { T.from_gives self.refusal result.refusal }
+        ensures place { result.place ≡ self.place }
+    {
+        T::from(self.refusal).at(self.place)
+    }
+}
+
+// As "4 (place), layer 1, place 99".
+impl<R: Refuses> fmt::Display for Fault<R> {
+    ghost output = { λ f. Some (shown_fault R.number R.layer R.name f) };
+
+    fn fmt<W: fmt::Write>(&self, f: &mut fmt::Formatter<W>) -> fmt::Result {
+        let refusal = self.refusal;
+        let number = refusal.number();
+        let layer = refusal.layer();
+        let place = self.place;
+        write!(f, "{number} ({refusal}), layer {layer}, place {place}")
+    }
+}
 
 // The checks of a store, in the order in which they run.
 #[derive(Clone, Copy, PartialEq, Eq, Debug)]
@@ -18,10 +77,16 @@ pub enum Refusal {
     Capacity,
 }
 
-impl Refusal {
-    pub fn number(self) -> u8
-        ensures { result ≡ number self }
-    {
+impl Refuses for Refusal {
+    ghost number = { number };
+
+    ghost layer = { layer };
+
+    ghost name = { check_name };
+
+    ghost shown = { λ x. refl };
+
+    fn number(self) -> u8 {
         match self {
             Refusal::Count => 3,
             Refusal::Place => 4,
@@ -31,21 +96,9 @@ impl Refusal {
     }
 
     // The store is layer 1.
-    pub fn layer(self) -> u8
-        ensures { result ≡ layer self }
-    {
+    fn layer(self) -> u8 {
         match self {
             Refusal::Count | Refusal::Place | Refusal::Area | Refusal::Capacity => 1,
-        }
-    }
-
-    // The fault of a call that this check refuses. Every fault of a store is built here.
-    pub fn at(self, place: usize) -> Fault
-        ensures { result ≡ fault_at self place }
-    {
-        Fault {
-            refusal: self,
-            place,
         }
     }
 }
@@ -61,25 +114,5 @@ impl fmt::Display for Refusal {
             Refusal::Area => write!(f, "area"),
             Refusal::Capacity => write!(f, "capacity"),
         }
-    }
-}
-
-// A refused call: by which check, and the call's place.
-#[derive(Clone, Copy, PartialEq, Eq, Debug)]
-pub struct Fault {
-    pub refusal: Refusal,
-    pub place: usize,
-}
-
-// As "4 (place), layer 1, place 99".
-impl fmt::Display for Fault {
-    ghost output = { λ x. Some (fault_form x) };
-
-    fn fmt<W: fmt::Write>(&self, f: &mut fmt::Formatter<W>) -> fmt::Result {
-        let refusal = self.refusal;
-        let number = refusal.number();
-        let layer = refusal.layer();
-        let place = self.place;
-        write!(f, "{number} ({refusal}), layer {layer}, place {place}")
     }
 }

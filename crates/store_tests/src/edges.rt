@@ -4,7 +4,7 @@ use piece_table::PieceTable;
 use std::process::Abort;
 use std::test::Fail;
 use store::checks::MAX_COUNT;
-use store::faults::{Fault, Refusal};
+use store::faults::{Fault, Refusal, Refuses};
 use store::text_store::TextStore;
 
 // The capacity of the stores under test: two of the longest insertions.
@@ -38,7 +38,7 @@ impl Edit {
     }
 }
 
-fn outcome<S: TextStore>(store: &mut S, row: Row, bytes: &[u8]) -> Option<Fault> {
+fn outcome<S: TextStore>(store: &mut S, row: Row, bytes: &[u8]) -> Option<Fault<Refusal>> {
     let mut area = [b'.'; 16];
     let count = row.count.min(bytes.len());
     let result = match row.edit {
@@ -53,10 +53,7 @@ fn outcome<S: TextStore>(store: &mut S, row: Row, bytes: &[u8]) -> Option<Fault>
 fn run_rows<S: TextStore>(rt: &impl Abort, store: &mut S, rows: &[Row]) {
     let bytes = [b'a'; MAX_COUNT + 1];
     for row in rows {
-        let expected = match row.refusal {
-            Some(refusal) => Some(refusal.at(row.place)),
-            None => None,
-        };
+        let expected = row.refusal.map(|refusal| refusal.at(row.place));
         assert_eq!(rt; outcome(store, *row, &bytes), expected);
     }
 }

@@ -2,39 +2,31 @@
 use Rattle.std.proofs.Common.{◌≡◌, ℕ, ◌+◌, ◌^◌, ◌<◌, ◌≤◌, List, length, Some, None, Ok, Err, Option, Result, sym, refl, ap, ◌∙◌, arith}
 use Rattle.std.proofs.lemmas.Bool.Decides.{nat_tests}
 use Rattle.places.specs.declared.edit.Edit.{Edit}
-use Rattle.places.specs.declared.faults.Fault.{Fault}
+use Rattle.places.specs.Refusals.{Fault}
 use Rattle.places.specs.declared.faults.Refusal.{Refusal}
 use Rattle.places.specs.declared.faults.Refusal.TheVariants.{UndoList}
-use Rattle.places.specs.Refusals.{answer, fault_at}
+use Rattle.store.specs.Edits.{answer}
+use Rattle.store.specs.Refusals.{fault_at}
 use Rattle.undo_list.specs.Groups.{Groups, entries_in, bytes_in, groups_in}
 use Rattle.undo_list.specs.Limits.{limit_check, group_check}
-use Rattle.turns.specs.Faults.{fault_of, fault_in, fault_moved, first_fault, losses}
-use Rattle.turns.specs.Rests.{verdict, moved, summed}
+use Rattle.turns.specs.Faults.{fault_of, losses}
+use Rattle.turns.specs.Rests.{verdict, summed}
 
 abbrev Verdict : Type 0
 Verdict = Result (Unit {0}) Fault
 
--- An answer is the verdict on the fault in it.
 pub of_answer : (o : Option Refusal) (p : ℕ) → answer o p ≡ verdict (fault_of o p)
 of_answer None p = refl
 of_answer (Some why) p = refl
 
-pub of_result : (r : Verdict) → r ≡ verdict (fault_in r)
-of_result (Ok u) = refl
-of_result (Err f) = refl
+-- What an answer says of the fault in it.
+pub answer_passes : (o : Option Refusal) (p : ℕ) → Ok (tt {0}) ≡ answer o p → fault_of o p ≡ None
+answer_passes None p h = refl
+answer_passes (Some why) p h = let z : ◌≡◌ {A = ℕ} 0 1 = cc in absurd (omega arith)
 
-pub of_moved : (r : Verdict) → moved r ≡ verdict (fault_moved 0 (fault_in r))
-of_moved (Ok u) = refl
-of_moved (Err f) = refl
-
--- The first of two faults answers; where there is none, the second.
-pub stops : (a rest : Option Fault) (r : Verdict) (f : Fault) → r ≡ Err f → r ≡ verdict a → r ≡ verdict (first_fault a rest)
-stops None rest r f is h = let z : ◌≡◌ {A = ℕ} 0 1 = cc in absurd (omega arith)
-stops (Some g) rest r f is h = h
-
-pub goes_on : (a rest : Option Fault) (r : Verdict) → Ok (tt {0}) ≡ verdict a → r ≡ verdict rest → r ≡ verdict (first_fault a rest)
-goes_on None rest r ok h = h
-goes_on (Some g) rest r ok h = let z : ◌≡◌ {A = ℕ} 0 1 = cc in absurd (omega arith)
+pub answer_fails : (o : Option Refusal) (p : ℕ) (f : Fault) → Err f ≡ answer o p → fault_of o p ≡ Some f
+answer_fails None p f h = let z : ◌≡◌ {A = ℕ} 0 1 = cc in absurd (omega arith)
+answer_fails (Some why) p f h = grind arith
 
 held : (es : List Edit) (bytes : ℕ) → Some bytes ≡ summed es → bytes ≡ losses es
 held es bytes h = grind (arith, nat_tests)

@@ -3,10 +3,10 @@ use Rattle.std.proofs.Common.{◌≡◌, ℕ, ◌+◌, ◌^◌, ◌<◌, ◌≤�
 use Rattle.std.proofs.lemmas.List.{at_drop_more, at_drop_all}
 use Rattle.std.proofs.lemmas.Bool.{cond-true, cond-false, lt-ltb, le-ltb}
 use Rattle.places.specs.declared.edit.Edit.{Edit}
-use Rattle.places.specs.declared.faults.Fault.{Fault}
+use Rattle.places.specs.Refusals.{Fault}
 use Rattle.places.specs.declared.faults.Refusal.{Refusal}
 use Rattle.places.specs.Edits.{growth, loss}
-use Rattle.places.specs.Refusals.{answer}
+use Rattle.store.specs.Edits.{answer}
 use Rattle.undo_list.specs.Limits.{count_check}
 use Rattle.turns.specs.Checks.{or_else}
 use Rattle.turns.specs.Faults.{counts_check, rooms_check, losses}

@@ -5,11 +5,11 @@ use Rattle.places.specs.declared.edit.Check.TheVariants.{Place, Window, Spans}
 use Rattle.places.specs.declared.edit.Edit.{Edit}
 use Rattle.places.specs.declared.edit.Edit.TheVariants.{Insertion, Deletion}
 use Rattle.places.specs.declared.edit.Origin.TheVariants.{Undo}
-use Rattle.places.specs.declared.faults.Fault.{Fault}
+use Rattle.places.specs.Refusals.{Fault}
 use Rattle.places.specs.declared.faults.Refusal.{Refusal}
 use Rattle.places.specs.DryRun.{edit_check, sight, put_to_all}
 use Rattle.places.specs.Edits.{growth, loss, len_after}
-use Rattle.places.specs.Refusals.{fault_at}
+use Rattle.store.specs.Refusals.{fault_at}
 use Rattle.undo_list.specs.Limits.{count_check, group_check}
 use Rattle.undo_list.specs.Groups.{Groups}
 use Rattle.places.specs.Model.{Model}

@@ -1,8 +1,9 @@
 -- What the loops over edits answer on the way. Assumes nothing.
 use Rattle.std.specs.Prelude.{◌≡◌, ℕ, ◌^◌, cond, List, ◌∷◌, length, Some, None, Ok, Err, Option, Result, nat_lt}
 use Rattle.places.specs.declared.edit.Edit.{Edit}
-use Rattle.places.specs.declared.faults.Fault.{Fault}
-use Rattle.places.specs.Refusals.{answer, fault_at}
+use Rattle.places.specs.Refusals.{Fault}
+use Rattle.store.specs.Edits.{answer}
+use Rattle.store.specs.Refusals.{fault_at}
 use Rattle.undo_list.specs.Groups.{Groups}
 use Rattle.undo_list.specs.Limits.{group_check}
 use Rattle.turns.specs.Faults.{fault_of, losses, rooms_check}
@@ -11,11 +12,6 @@ use Rattle.turns.specs.Faults.{fault_of, losses, rooms_check}
 abbrev pub verdict : Option Fault → Result (Unit {0}) Fault
 verdict None = Ok tt
 verdict (Some f) = Err f
-
--- An answer whose fault has no place.
-abbrev pub moved : Result (Unit {0}) Fault → Result (Unit {0}) Fault
-moved (Ok u) = Ok u
-moved (Err f) = Err (fault_at f.refusal 0)
 
 -- The edit has room, and the others then have the length after it; or it has none.
 abbrev pub Roomed : ℕ → ℕ → Edit → Result ℕ Fault → Type 0

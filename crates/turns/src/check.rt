@@ -3,37 +3,27 @@ ghost use Rattle.std.specs.Prelude.{◌≡◌};
 ghost use Rattle.places.specs.Model.{model};
 ghost use Rattle.undo_list.specs.View.{view};
 ghost use Rattle.turns.specs.Faults.{edits_fault};
-ghost use Rattle.turns.specs.Rests.{verdict, moved, list_fault};
+ghost use Rattle.turns.specs.Rests.{verdict, list_fault};
 
 use crate::counts::{check_counts, losses};
 use crate::room::check_rooms;
 use places::edit::{Check, Edit, Origin};
-use places::faults::{Fault, Refusal};
+use places::faults::{Fault, Refusal, Refuses};
 use places::record::Places;
 use undo_list::list::UndoList;
 
-// A fault without the place that it met.
-fn nowhere(res: Result<(), Fault>) -> Result<(), Fault>
-    ensures { result ≡ moved res }
-{
-    match res {
-        Ok(()) => Ok(()),
-        Err(fault) => Err(fault.refusal.at(0)),
-    }
-}
-
 // Undo list: the edits, as a group of their own, pass no limit.
+#[tactic(auto, using(crate::proofs::Judged::listed, crate::proofs::Judged::overfull), unfolding(crate::specs::Rests::list_fault))]
 fn check_list(list: &UndoList, edits: &[Edit]) -> Result<(), Fault>
     ensures { result ≡ verdict (list_fault (view list.now) edits.now) }
 {
-    match losses(edits) {
-        Some(bytes) => list.check_group(edits.len(), bytes, 0),
-        None => Err(Refusal::UndoList.at(0)),
-    }
+    let bytes = losses(edits).ok_or(Refusal::UndoList.at(0))?;
+    list.check_group(edits.len(), bytes, 0)
 }
 
 // Count to all the edits, then place, window, spans and capacity, each to all of them at their turn, then
 // the undo list: the first fault answers.
+#[tactic(auto, using(crate::proofs::Judged::answer_passes, crate::proofs::Judged::answer_fails), unfolding(crate::specs::Faults::edits_fault, crate::specs::Rests::list_fault))]
 pub fn check_edits(
     places: Places,
     room: usize,
@@ -43,7 +33,10 @@ pub fn check_edits(
     ensures { result ≡ verdict (edits_fault (model places) room (view list.now) edits.now) }
 {
     check_counts(edits)?;
-    nowhere(places.check_all(Check::Place, edits))?;
+    // a fault of place answers without the place that it met
+    places
+        .check_all(Check::Place, edits)
+        .map_err(|fault| fault.refusal.at(0))?;
     places.check_all(Check::Window, edits)?;
     places.check_all(Check::Spans(Origin::Undo), edits)?;
     check_rooms(places.len, room, edits)?;

@@ -1,7 +1,7 @@
 // What a list of edits counts.
 ghost use Rattle.std.specs.Prelude.{◌≡◌, ◌+◌};
 ghost use Rattle.places.specs.Edits.{growth, loss};
-ghost use Rattle.places.specs.Refusals.{answer};
+ghost use Rattle.store.specs.Edits.{answer};
 ghost use Rattle.turns.specs.Faults.{counts_check};
 ghost use Rattle.turns.specs.Rests.{summed};
 
@@ -14,12 +14,12 @@ fn size(edit: Edit) -> usize
     ensures { result ≡ growth edit + loss edit }
 {
     match edit {
-        Edit::Insertion { place: _, count } => count,
-        Edit::Deletion { place: _, count } => count,
+        Edit::Insertion { place: _, count } | Edit::Deletion { place: _, count } => count,
     }
 }
 
 // Count, to all the edits.
+#[tactic(auto, using(crate::proofs::Turned::count_refused, crate::proofs::Turned::count_passed, crate::proofs::Turned::all_done))]
 pub(crate) fn check_counts(edits: &[Edit]) -> Result<(), Fault>
     ensures { result ≡ answer (counts_check edits.now) 0 }
 {
@@ -40,6 +40,7 @@ fn loss(edit: Edit) -> usize
 }
 
 // How many bytes all the edits take out; none where the machine cannot hold the sum.
+#[tactic(auto, using(crate::proofs::Turned::loss_more, crate::proofs::Turned::loss_too_large, crate::proofs::Turned::sum_done, crate::proofs::Turned::sum_held, crate::proofs::Turned::sum_too_large))]
 pub(crate) fn losses(edits: &[Edit]) -> Option<usize>
     ensures { result ≡ summed edits.now }
 {

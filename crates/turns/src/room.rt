@@ -1,19 +1,20 @@
 // Whether the capacity has room.
 ghost use Rattle.std.specs.Prelude.{◌≡◌, ◌+◌, ◌≤◌, None, OnOk};
-ghost use Rattle.places.specs.Refusals.{answer};
+ghost use Rattle.store.specs.Edits.{answer};
 ghost use Rattle.turns.specs.Checks.{room_check};
 ghost use Rattle.turns.specs.Faults.{rooms_check};
 ghost use Rattle.turns.specs.Rests.{Roomed};
 
 use places::edit::Edit;
-use places::faults::{Fault, Refusal};
+use places::faults::{Fault, Refusal, Refuses};
+use store::checks::has_room;
 
 // Capacity: n bytes more do not make the text longer than it.
 pub fn check_room(len: usize, room: usize, n: usize, p: usize) -> Result<(), Fault>
     ensures value { result ≡ answer (room_check len room n) p }
     ensures passed { OnOk result ((room_check len room n ≡ None) × (len + n ≤ room)) }
 {
-    if len > room || room - len < n {
+    if !has_room(len, room, n) {
         return Err(Refusal::Capacity.at(p));
     }
     Ok(())
@@ -33,6 +34,7 @@ fn after_edit(len: usize, room: usize, edit: Edit) -> Result<usize, Fault>
 }
 
 // Capacity, to all the edits at their turn: no text in between is longer.
+#[tactic(auto, using(crate::proofs::Turned::room_refused, crate::proofs::Turned::room_passed, crate::proofs::Turned::rooms_done))]
 pub(crate) fn check_rooms(len: usize, room: usize, edits: &[Edit]) -> Result<(), Fault>
     ensures { result ≡ answer (rooms_check len room edits.now) 0 }
 {

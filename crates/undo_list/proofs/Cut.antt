@@ -4,10 +4,13 @@ use Rattle.std.proofs.lemmas.List.{take-take, take-append-drop, drop-take, drop_
 use Rattle.std.proofs.lemmas.Bool.{cases_Bool}
 use Rattle.std.proofs.lemmas.Bool.Decides.{nat_tests}
 use Rattle.undo_list.specs.declared.entry.Entry.{Entry}
+use Rattle.undo_list.specs.declared.entry.Stored.{Stored}
 use Rattle.undo_list.specs.declared.list.UndoList.{UndoList}
 use Rattle.undo_list.specs.Groups.{Groups, entries_in, bytes_in, cut}
 use Rattle.undo_list.specs.View.{view}
-use Rattle.undo_list.specs.Spell.{kept_count, total, held, spell, rising, last_end, split, grouped}
+use Rattle.undo_list.specs.Spell.{entries_of, offsets_of, offsets_from, kept_count, total, held, spell, rising, last_end, split, grouped}
+use Rattle.undo_list.proofs.Stored.{listed, listed_len, entries_take, offsets_take}
+use Rattle.undo_list.proofs.Offsets.{placed_cut}
 use Rattle.undo_list.proofs.Ends.{rising_last, total-take}
 use Rattle.undo_list.proofs.Kept.{Sound, sound}
 use Rattle.undo_list.proofs.Lists.{entries_count, bytes_count, opened_count, ends_within}
@@ -96,23 +99,30 @@ pub record Shorter (g : Groups) (n : ℕ) (after : Groups) : Type 0 where
   pub entries : entries_in after ≡ entries_in g - min n (length g.opened)
   pub bytes : bytes_in after ≤ bytes_in g
 
-module _ (l : UndoList) (n left bytes : ℕ) (is : left ≡ max (vec_len l.entries - n) (last_end 0 (vec_items l.ends))) (b : bytes ≡ total (take left (vec_items l.entries))) where
-  is_left : left ≡ max (length (vec_items l.entries) - n) (last_end 0 (vec_items l.ends))
-  is_left = is ∙ ap (λ k. max (k - n) (last_end 0 (vec_items l.ends))) l.entries.ok.0
+module _ (l : UndoList) (n left bytes : ℕ) (is : left ≡ max (vec_len l.stored - n) (last_end 0 (vec_items l.ends))) (b : bytes ≡ total (take left (listed l))) where
+  is_left : left ≡ max (length (listed l) - n) (last_end 0 (vec_items l.ends))
+  is_left = is ∙ ap (λ k. max (k - n) (last_end 0 (vec_items l.ends))) (listed_len l)
 
-  pub sound_shorter : (es : List Entry) (ks : List ℕ) → es ≡ take left (vec_items l.entries) → ks ≡ take bytes (vec_items l.kept) → Sound es ks (vec_items l.ends)
-  sound_shorter es ks = sound_left _ _ _ (sound l) n left is_left es ks bytes b
+  pub sound_shorter : (ss : List Stored) (ks : List ℕ) → ss ≡ take left (vec_items l.stored) → ks ≡ take bytes (vec_items l.kept) → Sound (entries_of ss) ks (vec_items l.ends)
+  sound_shorter ss ks a = sound_left _ _ _ (sound l) n left is_left (entries_of ss) ks bytes b (entries_take (vec_items l.stored) ss left a)
 
-  module _ (m : UndoList) (a : vec_items m.entries ≡ take left (vec_items l.entries)) (c : vec_items m.kept ≡ take bytes (vec_items l.kept)) (e : m.ends ≡ l.ends) where
+  pub placed_shorter : (ss : List Stored) → ss ≡ take left (vec_items l.stored) → offsets_of ss ≡ offsets_from 0 (entries_of ss)
+  placed_shorter ss a =
+      placed_cut (listed l) (offsets_of (vec_items l.stored)) l.placed left (entries_of ss) (offsets_of ss) (entries_take (vec_items l.stored) ss left a) (offsets_take (vec_items l.stored) ss left a)
+
+  module _ (m : UndoList) (s : vec_items m.stored ≡ take left (vec_items l.stored)) (c : vec_items m.kept ≡ take bytes (vec_items l.kept)) (e : m.ends ≡ l.ends) where
+    a : listed m ≡ take left (listed l)
+    a = entries_take (vec_items l.stored) (vec_items m.stored) left s
+
     view_shorter : view m ≡ cut n (view l)
     unfolding view
-    view_shorter = ap (λ x. grouped (vec_items x) (spell (vec_items m.entries) (vec_items m.kept))) e ∙ view_left _ _ _ (sound l) n left is_left _ _ bytes b a c
+    view_shorter = ap (λ x. grouped (vec_items x) (spell (listed m) (vec_items m.kept))) e ∙ view_left _ _ _ (sound l) n left is_left _ _ bytes b a c
 
     pub shorter_open : Shorter (view l) n (view m)
     shorter_open =
         record {
           view = view_shorter;
           closed = ap (λ (g : Groups). g.closed) view_shorter;
-          entries = omega (arith, is, entries_count l, entries_count m, opened_count l, ends_within l, l.entries.ok.0, m.entries.ok.0, ap length a, length-take left (vec_items l.entries));
+          entries = omega (arith, is, entries_count l, entries_count m, opened_count l, ends_within l, listed_len l, listed_len m, ap length a, length-take left (listed l));
           bytes = omega (arith, bytes_count l, bytes_count m, l.kept.ok.0, m.kept.ok.0, ap length c, length-take bytes (vec_items l.kept));
         }

@@ -6,6 +6,7 @@ use Rattle.undo_list.specs.declared.entry.Entry.{Entry}
 use Rattle.undo_list.specs.declared.list.UndoList.{UndoList}
 use Rattle.undo_list.specs.Groups.{bytes_of, entries_in, bytes_in, groups_in, has_open, recorded, shut}
 use Rattle.undo_list.specs.Spell.{kept_count, total, held, spell, rising, last_end, groups_held, split, grouped}
+use Rattle.undo_list.proofs.Stored.{listed}
 use Rattle.undo_list.proofs.Ends.{total_push, rising_last, rising_grows, rising_push, last_push}
 use Rattle.undo_list.proofs.Spelled.{length-spell, spell_push, grouped_push, grouped_close, joined_all, length-split, bytes_spell}
 
@@ -14,7 +15,7 @@ pub record Sound (es : List Entry) (ks : List ℕ) (ends : List ℕ) : Type 0 wh
   pub rises : rising 0 ends (length es) ≡ true
   pub few : groups_held ends (length es) ≤ 256
 
-pub sound : (l : UndoList) → Sound (vec_items l.entries) (vec_items l.kept) (vec_items l.ends)
+pub sound : (l : UndoList) → Sound (listed l) (vec_items l.kept) (vec_items l.ends)
 sound l = record { filled = l.filled; rises = l.rises; few = l.groups_few }
 
 tests_agree : (a b c : ℕ) → c ≡ b - a → ltb 0 c ≡ ltb a b

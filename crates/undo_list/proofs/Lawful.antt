@@ -11,6 +11,7 @@ use Rattle.undo_list.specs.Kinds.{note, kept_of}
 use Rattle.undo_list.specs.Laws.{Fits, WellKept}
 use Rattle.undo_list.specs.Spell.{kept_count, total, held_as, held, nothing, spell, rising, start, split}
 use Rattle.undo_list.specs.View.{view}
+use Rattle.undo_list.proofs.Stored.{listed}
 use Rattle.undo_list.proofs.Ends.{total_more, total-take}
 use Rattle.undo_list.proofs.Kept.{Sound, sound, spelled_rises, entries_are}
 use Rattle.undo_list.proofs.Lists.{entries_count, bytes_count, groups_count}
@@ -55,7 +56,7 @@ module _ (es : List Entry) (ks : List ℕ) (ends : List ℕ) (s : Sound es ks en
       first (x ∷ xs) e = entry_fits x i h
 
 entries_few : (l : UndoList) → entries_in (view l) ≤ 512
-entries_few l = omega (arith, entries_count l, l.entries_few)
+entries_few l = omega (arith, entries_count l, l.stored_few)
 
 bytes_few : (l : UndoList) → bytes_in (view l) ≤ 16384
 bytes_few l = omega (arith, bytes_count l, l.kept_few)
@@ -63,9 +64,9 @@ bytes_few l = omega (arith, bytes_count l, l.kept_few)
 entry_of : (l : UndoList) (i : ℕ) → i < entries_in (view l) → Fits (get_or (joined (view l).closed (view l).opened) i nothing)
 unfolding view
 entry_of l i h =
-    let lt : i < length (vec_items l.entries) = omega (arith, entries_are _ _ _ (sound l)) in
+    let lt : i < length (listed l) = omega (arith, entries_are _ _ _ (sound l)) in
     let P : List Held → Type 0 = λ xs. Fits (get_or xs i nothing) in
-    subst P (sym (joined_all (vec_items l.ends) (spell (vec_items l.entries) (vec_items l.kept)) (spelled_rises _ _ _ (sound l)))) (all_fit _ _ _ (sound l) i lt)
+    subst P (sym (joined_all (vec_items l.ends) (spell (listed l) (vec_items l.kept)) (spelled_rises _ _ _ (sound l)))) (all_fit _ _ _ (sound l) i lt)
 
 group_of : (l : UndoList) (j : ℕ) → j < length (view l).closed → 0 < length (get_or (view l).closed j [])
 unfolding view

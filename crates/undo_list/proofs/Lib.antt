@@ -7,4 +7,5 @@ pub mod Lists
 pub mod Offsets
 pub mod Ranges
 pub mod Spelled
+pub mod Stored
 pub mod Trimmed

@@ -3,10 +3,12 @@ use Rattle.std.proofs.Common.{◌≡◌, ℕ, suc, ◌+◌, ◌-◌, ◌<◌, �
 use Rattle.std.proofs.lemmas.List.{nil_from_length}
 use Rattle.std.proofs.lemmas.Bool.Decides.{nat_tests}
 use Rattle.undo_list.specs.declared.entry.Entry.{Entry}
+use Rattle.undo_list.specs.declared.entry.Stored.{Stored}
 use Rattle.undo_list.specs.declared.list.UndoList.{UndoList}
 use Rattle.undo_list.specs.Groups.{Held, Groups, no_groups, Empty, entries_in, bytes_in, groups_in, has_open, recorded, shut}
-use Rattle.undo_list.specs.Spell.{kept_count, offsets_from, held, spell, last_end, start, grouped}
+use Rattle.undo_list.specs.Spell.{entries_of, offsets_of, kept_count, offsets_from, held, spell, last_end, start, grouped}
 use Rattle.undo_list.specs.View.{view}
+use Rattle.undo_list.proofs.Stored.{listed, listed_len, entries_push, offsets_push}
 use Rattle.undo_list.proofs.Ends.{start_first, start_next, last_start}
 use Rattle.undo_list.proofs.Offsets.{placed_push}
 use Rattle.undo_list.proofs.Kept.{Sound, sound, entries_are, bytes_are, closed_are, opened_are, open_is, groups_few, last_within, sound_push, view_push, sound_close, view_close}
@@ -34,17 +36,17 @@ recorded_groups h g = grind (arith, nat_tests)
 none_open : (g : Groups) → has_open g ≡ false → g.opened ≡ []
 none_open g h = nil_from_length g.opened (grind (arith, nat_tests))
 
-pub empty : (l : UndoList) → vec_items l.entries ≡ [] → vec_items l.kept ≡ [] → vec_items l.ends ≡ [] → Empty (view l)
+pub empty : (l : UndoList) → vec_items l.stored ≡ [] → vec_items l.kept ≡ [] → vec_items l.ends ≡ [] → Empty (view l)
 unfolding view entries_in bytes_in
 empty l a b c =
-    let v : grouped (vec_items l.ends) (spell (vec_items l.entries) (vec_items l.kept)) ≡ no_groups =
-    ap (λ x. grouped x (spell (vec_items l.entries) (vec_items l.kept))) c ∙ ap (λ x. grouped [] (spell x (vec_items l.kept))) a in
+    let v : grouped (vec_items l.ends) (spell (listed l) (vec_items l.kept)) ≡ no_groups =
+    ap (λ x. grouped x (spell (listed l) (vec_items l.kept))) c ∙ ap (λ x. grouped [] (spell (entries_of x) (vec_items l.kept))) a in
     record { groups = v; entries = ap entries_in v; bytes = ap bytes_in v }
 
 module _ (l : UndoList) where
-  pub entries_count : vec_len l.entries ≡ entries_in (view l)
+  pub entries_count : vec_len l.stored ≡ entries_in (view l)
   unfolding view
-  entries_count = l.entries.ok.0 ∙ sym (entries_are _ _ _ (sound l))
+  entries_count = listed_len l ∙ sym (entries_are _ _ _ (sound l))
 
   pub bytes_count : vec_len l.kept ≡ bytes_in (view l)
   unfolding view
@@ -61,16 +63,16 @@ module _ (l : UndoList) where
   unfolding view
   groups_count = groups_few _ _ _ (sound l)
 
-  pub open_test : (n : ℕ) → n ≡ last_end 0 (vec_items l.ends) → ltb n (vec_len l.entries) ≡ has_open (view l)
+  pub open_test : has_open (view l) ≡ ltb (last_end 0 (vec_items l.ends)) (entries_in (view l))
   unfolding view
-  open_test n is = ap (λ x. ltb x (vec_len l.entries)) is ∙ ap (ltb (last_end 0 (vec_items l.ends))) l.entries.ok.0 ∙ sym (open_is _ _ _ (sound l))
+  open_test = open_is _ _ _ (sound l) ∙ ap (ltb (last_end 0 (vec_items l.ends))) (sym (entries_are _ _ _ (sound l)))
 
-  pub not_open : (n : ℕ) → n ≡ last_end 0 (vec_items l.ends) → ltb n (vec_len l.entries) ≡ false → (view l).opened ≡ []
-  not_open n is h = none_open (view l) (sym (open_test n is) ∙ h)
+  pub not_open : ltb (last_end 0 (vec_items l.ends)) (entries_in (view l)) ≡ false → (view l).opened ≡ []
+  not_open h = none_open (view l) (open_test ∙ h)
 
-  pub opened_count : length (view l).opened ≡ vec_len l.entries - last_end 0 (vec_items l.ends)
+  pub opened_count : length (view l).opened ≡ vec_len l.stored - last_end 0 (vec_items l.ends)
   unfolding view
-  opened_count = opened_are _ _ _ (sound l) ∙ ap (λ n. n - last_end 0 (vec_items l.ends)) (sym l.entries.ok.0)
+  opened_count = opened_are _ _ _ (sound l) ∙ ap (λ n. n - last_end 0 (vec_items l.ends)) (sym (listed_len l))
 
   -- where a group starts
   pub start_none : (j : ℕ) → j ≡ 0 → 0 ≡ start 0 (vec_items l.ends) j
@@ -85,37 +87,42 @@ module _ (l : UndoList) where
   pub start_last : start 0 (vec_items l.ends) (vec_len l.ends) ≡ last_end 0 (vec_items l.ends)
   start_last = ap (start 0 (vec_items l.ends)) l.ends.ok.0 ∙ last_start 0 (vec_items l.ends)
 
-  pub ends_within : last_end 0 (vec_items l.ends) ≤ vec_len l.entries
-  ends_within = omega (arith, last_within _ _ _ (sound l), l.entries.ok.0)
+  pub ends_within : last_end 0 (vec_items l.ends) ≤ vec_len l.stored
+  ends_within = omega (arith, last_within _ _ _ (sound l), listed_len l)
 
   -- one more entry
-  pub sound_recorded : (es' : List Entry) (ks' : List ℕ) (e : Entry) (w : List ℕ) → kept_count e ≡ length w → length (view l).closed + 1 ≤ 256
-      → es' ≡ vec_items l.entries ++ e ∷ [] → ks' ≡ vec_items l.kept ++ w → Sound es' ks' (vec_items l.ends)
-  sound_recorded es' ks' e w k h a b =
-      let s = sound_push (vec_items l.entries) (vec_items l.kept) (vec_items l.ends) (sound l) e w k (omega (arith, closed_count, l.ends.ok.0)) in
-      rw (a, b) s
+  pub sound_recorded : (ss : List Stored) (ks' : List ℕ) (s : Stored) (w : List ℕ) → kept_count s.entry ≡ length w → length (view l).closed + 1 ≤ 256
+      → ss ≡ vec_items l.stored ++ s ∷ [] → ks' ≡ vec_items l.kept ++ w → Sound (entries_of ss) ks' (vec_items l.ends)
+  sound_recorded ss ks' s w k h a b =
+      let t = sound_push (listed l) (vec_items l.kept) (vec_items l.ends) (sound l) s.entry w k (omega (arith, closed_count, l.ends.ok.0)) in
+      let a' = entries_push (vec_items l.stored) ss s a in
+      rw (a', b) t
 
-  pub placed_recorded : (es' : List Entry) (os' : List ℕ) (e : Entry) (n : ℕ) → n ≡ vec_len l.kept → es' ≡ vec_items l.entries ++ e ∷ [] → os' ≡ vec_items l.offsets ++ n ∷ [] → os' ≡ offsets_from 0 es'
-  placed_recorded es' os' e n is a b = placed_push (vec_items l.entries) (vec_items l.offsets) l.placed e n es' os' (is ∙ l.kept.ok.0 ∙ sym l.filled) a b
+  pub placed_recorded : (ss : List Stored) (s : Stored) → s.before ≡ vec_len l.kept → ss ≡ vec_items l.stored ++ s ∷ [] → offsets_of ss ≡ offsets_from 0 (entries_of ss)
+  placed_recorded ss s is a =
+      placed_push (listed l) (offsets_of (vec_items l.stored)) l.placed s.entry s.before (entries_of ss) (offsets_of ss) (is ∙ l.kept.ok.0 ∙ sym l.filled)
+      (entries_push (vec_items l.stored) ss s a) (offsets_push (vec_items l.stored) ss s a)
 
-  pub pushed : (m : UndoList) (e : Entry) (w : List ℕ) (h : Held) → kept_count e ≡ length w → held e w ≡ h
-      → vec_items m.entries ≡ vec_items l.entries ++ e ∷ []
+  pub pushed : (m : UndoList) (s : Stored) (w : List ℕ) (h : Held) → kept_count s.entry ≡ length w → held s.entry w ≡ h
+      → vec_items m.stored ≡ vec_items l.stored ++ s ∷ []
       → vec_items m.kept ≡ vec_items l.kept ++ w
       → vec_items m.ends ≡ vec_items l.ends
       → Pushed (view l) h (length w) (view m)
   unfolding view
-  pushed m e w h k is a b c =
-      let v = view_push (vec_items l.entries) (vec_items l.kept) (vec_items l.ends) (sound l) e w k in
-      let all = ap (λ x. grouped x (spell (vec_items m.entries) (vec_items m.kept))) c ∙ ap (λ x. grouped (vec_items l.ends) (spell x (vec_items m.kept))) a ∙ ap (λ x. grouped (vec_items l.ends) (spell (vec_items l.entries ++ e ∷ []) x)) b ∙ v ∙ ap (λ x. recorded x (grouped (vec_items l.ends) (spell (vec_items l.entries) (vec_items l.kept)))) is in
+  pushed m s w h k is more b c =
+      let e : Entry = s.entry in
+      let a : listed m ≡ listed l ++ s.entry ∷ [] = entries_push (vec_items l.stored) (vec_items m.stored) s more in
+      let v = view_push (listed l) (vec_items l.kept) (vec_items l.ends) (sound l) e w k in
+      let all = ap (λ x. grouped x (spell (listed m) (vec_items m.kept))) c ∙ ap (λ x. grouped (vec_items l.ends) (spell x (vec_items m.kept))) a ∙ ap (λ x. grouped (vec_items l.ends) (spell (listed l ++ e ∷ []) x)) b ∙ v ∙ ap (λ x. recorded x (grouped (vec_items l.ends) (spell (listed l) (vec_items l.kept)))) is in
       record {
         view = all;
         groups = ap groups_in all ∙ recorded_groups h _;
-        entries = entries_are _ _ _ (sound m) ∙ ap length a ∙ length-append (vec_items l.entries) (e ∷ []) ∙ ap (λ n. n + 1) (sym (entries_are _ _ _ (sound l)));
+        entries = entries_are _ _ _ (sound m) ∙ ap length a ∙ length-append (listed l) (e ∷ []) ∙ ap (λ n. n + 1) (sym (entries_are _ _ _ (sound l)));
         bytes = bytes_are _ _ _ (sound m) ∙ ap length b ∙ length-append (vec_items l.kept) w ∙ ap (λ n. n + length w) (sym (bytes_are _ _ _ (sound l)));
       }
 
   -- the open group closed
-  open_some : has_open (view l) ≡ true → last_end 0 (vec_items l.ends) < length (vec_items l.entries)
+  open_some : has_open (view l) ≡ true → last_end 0 (vec_items l.ends) < length (listed l)
   unfolding view
   open_some h = let t = sym (open_is _ _ _ (sound l)) ∙ h in grind (arith, nat_tests)
 
@@ -125,24 +132,24 @@ module _ (l : UndoList) where
       let g = groups_count in
       grind (arith, nat_tests)
 
-  pub sound_closed : (ends' : List ℕ) (e : ℕ) → e ≡ vec_len l.entries → has_open (view l) ≡ true
-      → ends' ≡ vec_items l.ends ++ e ∷ [] → Sound (vec_items l.entries) (vec_items l.kept) ends'
+  pub sound_closed : (ends' : List ℕ) (e : ℕ) → e ≡ vec_len l.stored → has_open (view l) ≡ true
+      → ends' ≡ vec_items l.ends ++ e ∷ [] → Sound (listed l) (vec_items l.kept) ends'
   sound_closed ends' e n h a =
-      let s = sound_close (vec_items l.entries) (vec_items l.kept) (vec_items l.ends) (sound l) e (n ∙ l.entries.ok.0) (open_some h) in
+      let s = sound_close (listed l) (vec_items l.kept) (vec_items l.ends) (sound l) e (n ∙ listed_len l) (open_some h) in
       rw a s
 
-  pub closed_up : (m : UndoList) (e : ℕ) → has_open (view l) ≡ true → e ≡ vec_len l.entries
-      → m.entries ≡ l.entries → m.kept ≡ l.kept
+  pub closed_up : (m : UndoList) (e : ℕ) → has_open (view l) ≡ true → e ≡ vec_len l.stored
+      → m.stored ≡ l.stored → m.kept ≡ l.kept
       → vec_items m.ends ≡ vec_items l.ends ++ e ∷ []
       → Shut (view l) (view m)
   unfolding view
   closed_up m e h n a b c =
-      let v = view_close (vec_items l.entries) (vec_items l.kept) (vec_items l.ends) (sound l) e (n ∙ l.entries.ok.0) in
-      let all = ap (λ x. grouped x (spell (vec_items m.entries) (vec_items m.kept))) c ∙ ap (λ x. grouped (vec_items l.ends ++ e ∷ []) (spell (vec_items x) (vec_items m.kept))) a ∙ ap (λ x. grouped (vec_items l.ends ++ e ∷ []) (spell (vec_items l.entries) (vec_items x))) b ∙ v in
+      let v = view_close (listed l) (vec_items l.kept) (vec_items l.ends) (sound l) e (n ∙ listed_len l) in
+      let all = ap (λ x. grouped x (spell (listed m) (vec_items m.kept))) c ∙ ap (λ x. grouped (vec_items l.ends ++ e ∷ []) (spell (entries_of (vec_items x)) (vec_items m.kept))) a ∙ ap (λ x. grouped (vec_items l.ends ++ e ∷ []) (spell (listed l) (vec_items x))) b ∙ v in
       record {
         view = all;
-        groups = ap (λ (g : Groups). length g.closed) all ∙ shut_groups (grouped (vec_items l.ends) (spell (vec_items l.entries) (vec_items l.kept))) h;
+        groups = ap (λ (g : Groups). length g.closed) all ∙ shut_groups (grouped (vec_items l.ends) (spell (listed l) (vec_items l.kept))) h;
         opened = ap (λ (g : Groups). g.opened) all;
-        entries = entries_are _ _ _ (sound m) ∙ ap (λ x. length (vec_items x)) a ∙ sym (entries_are _ _ _ (sound l));
+        entries = entries_are _ _ _ (sound m) ∙ ap (λ x. length (entries_of (vec_items x))) a ∙ sym (entries_are _ _ _ (sound l));
         bytes = bytes_are _ _ _ (sound m) ∙ ap (λ x. length (vec_items x)) b ∙ sym (bytes_are _ _ _ (sound l));
       }

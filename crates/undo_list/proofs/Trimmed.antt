@@ -3,10 +3,13 @@ use Rattle.std.proofs.Common.{◌≡◌, ℕ, zero, suc, ◌+◌, ◌-◌, ◌<�
 use Rattle.std.proofs.lemmas.List.{drop-drop, length-map}
 use Rattle.std.proofs.lemmas.Bool.Decides.{nat_tests}
 use Rattle.undo_list.specs.declared.entry.Entry.{Entry}
+use Rattle.undo_list.specs.declared.entry.Stored.{Stored}
 use Rattle.undo_list.specs.Groups.{Held, Groups, entries_in, bytes_in, trimmed}
 use Rattle.undo_list.specs.declared.list.UndoList.{UndoList}
 use Rattle.undo_list.specs.View.{view}
-use Rattle.undo_list.specs.Spell.{total, spell, rising, last_end, start, groups_held, part, split, grouped, lowered}
+use Rattle.undo_list.specs.Spell.{total, spell, rising, last_end, start, groups_held, part, split, grouped, lowered, shifted, entries_of, offsets_of, offsets_from}
+use Rattle.undo_list.proofs.Stored.{listed, listed_len, entries_drop, offsets_drop, offset_left, drop_offsets}
+use Rattle.undo_list.proofs.Offsets.{placed_past, placed_trimmed}
 use Rattle.undo_list.proofs.Ends.{rising_last}
 use Rattle.undo_list.proofs.Kept.{Sound, sound}
 use Rattle.undo_list.proofs.Lists.{entries_count, bytes_count, closed_within}
@@ -161,17 +164,32 @@ pub record Fewer (g : Groups) (k : ℕ) (after : Groups) : Type 0 where
   pub bytes : bytes_in after ≤ bytes_in g
 
 module _ (l : UndoList) (k gone : ℕ) (h : k ≤ length (view l).closed) (at : gone ≡ start 0 (vec_items l.ends) k) where
-  pub entries_gone : gone ≤ vec_len l.entries
-  entries_gone = omega (arith, gone_within _ _ _ (sound l) gone k (closed_within l k h) at, l.entries.ok.0)
+  pub entries_gone : gone ≤ vec_len l.stored
+  entries_gone = omega (arith, gone_within _ _ _ (sound l) gone k (closed_within l k h) at, listed_len l)
 
   pub ends_past : (i d : ℕ) → i < length (drop k (vec_items l.ends)) → gone ≤ get_or (drop k (vec_items l.ends)) i d
   ends_past = left_past _ _ _ (sound l) gone k (closed_within l k h) at
 
-  module _ (freed : ℕ) (f : freed ≡ total (take gone (vec_items l.entries))) where
-    pub sound_fewer : (es : List Entry) (ks ends : List ℕ) → es ≡ drop gone (vec_items l.entries) → ks ≡ drop freed (vec_items l.kept) → ends ≡ map (lowered gone) (drop k (vec_items l.ends)) → Sound es ks ends
-    sound_fewer = sound_trimmed _ _ _ (sound l) gone k (closed_within l k h) at freed f
+  module _ (freed : ℕ) (f : freed ≡ total (take gone (listed l))) where
+    pub sound_fewer : (ss : List Stored) (ks ends : List ℕ) → ss ≡ map (shifted freed) (drop gone (vec_items l.stored)) → ks ≡ drop freed (vec_items l.kept) → ends ≡ map (lowered gone) (drop k (vec_items l.ends)) → Sound (entries_of ss) ks ends
+    sound_fewer ss ks ends a = sound_trimmed _ _ _ (sound l) gone k (closed_within l k h) at freed f (entries_of ss) ks ends (entries_drop (vec_items l.stored) ss gone freed a)
 
-    module _ (m : UndoList) (a : vec_items m.entries ≡ drop gone (vec_items l.entries)) (b : vec_items m.kept ≡ drop freed (vec_items l.kept)) (c : vec_items m.ends ≡ map (lowered gone) (drop k (vec_items l.ends))) where
+    pub offsets_past : (i : ℕ) (d : Stored) → i < length (drop gone (vec_items l.stored)) → freed ≤ (get_or (drop gone (vec_items l.stored)) i d).before
+    offsets_past i d lt =
+        let same = offset_left (vec_items l.stored) gone i d lt in
+        let long = drop_offsets (vec_items l.stored) gone in
+        let past = placed_past (listed l) (offsets_of (vec_items l.stored)) l.placed gone freed f i 0 (omega arith) in
+        omega arith
+
+    pub placed_fewer : (ss : List Stored) → ss ≡ map (shifted freed) (drop gone (vec_items l.stored)) → offsets_of ss ≡ offsets_from 0 (entries_of ss)
+    placed_fewer ss a =
+        placed_trimmed (listed l) (offsets_of (vec_items l.stored)) l.placed gone freed f (entries_of ss) (offsets_of ss)
+        (entries_drop (vec_items l.stored) ss gone freed a) (offsets_drop (vec_items l.stored) ss gone freed a)
+
+    module _ (m : UndoList) (s : vec_items m.stored ≡ map (shifted freed) (drop gone (vec_items l.stored))) (b : vec_items m.kept ≡ drop freed (vec_items l.kept)) (c : vec_items m.ends ≡ map (lowered gone) (drop k (vec_items l.ends))) where
+      a : listed m ≡ drop gone (listed l)
+      a = entries_drop (vec_items l.stored) (vec_items m.stored) gone freed s
+
       view_fewer : view m ≡ trimmed k (view l)
       unfolding view
       view_fewer = view-trimmed _ _ _ (sound l) gone k (closed_within l k h) at freed f _ _ _ a b c
@@ -182,6 +200,6 @@ module _ (l : UndoList) (k gone : ℕ) (h : k ≤ length (view l).closed) (at : 
             view = view_fewer;
             opened = ap (λ (g : Groups). g.opened) view_fewer;
             groups = ap (λ (g : Groups). length g.closed) view_fewer ∙ length-drop k (view l).closed;
-            entries = omega (arith, entries_count l, entries_count m, l.entries.ok.0, m.entries.ok.0, ap length a, length-drop gone (vec_items l.entries));
+            entries = omega (arith, entries_count l, entries_count m, listed_len l, listed_len m, ap length a, length-drop gone (listed l));
             bytes = omega (arith, bytes_count l, bytes_count m, l.kept.ok.0, m.kept.ok.0, ap length b, length-drop freed (vec_items l.kept));
           }

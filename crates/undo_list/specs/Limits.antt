@@ -1,5 +1,6 @@
 -- The limits of an undo list, and which check refuses a call. Assumes nothing.
 use Rattle.std.specs.Prelude.{◌≡◌, ℕ, ◌+◌, ◌-◌, ◌≤◌, cond, [], length, Some, None, Option, ◌==◌, nat_lt}
+use Rattle.store.specs.Edits.{unless}
 use Rattle.places.specs.declared.faults.Refusal.{Refusal}
 use Rattle.places.specs.declared.faults.Refusal.TheVariants.{Argument, Count, Presence, UndoList}
 use Rattle.undo_list.specs.Groups.{Held, Groups, recorded, entries_in, bytes_in, groups_in, after_close, trimmed}
@@ -42,11 +43,6 @@ trim_check g k =
     cond (k == 0) (Some Argument)
     (cond (nat_lt 256 k) (Some Argument)
     (cond (nat_lt (length g.closed) k) (Some Presence) None))
-
--- A refused call changes nothing.
-abbrev pub unless : {A : Type 0} → Option Refusal → A → A → A
-unless None new old = new
-unless (Some why) new old = old
 
 -- What the acceptance of an entry means, which keeps n bytes.
 pub record Recorded (check : Option Refusal) (g : Groups) (h : Held) (n : ℕ) (after : Groups) : Type 0 where

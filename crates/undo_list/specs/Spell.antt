@@ -1,6 +1,7 @@
 -- What the parts of an undo list spell. Assumes nothing.
-use Rattle.std.specs.Prelude.{ℕ, zero, suc, ◌+◌, ◌-◌, Bool, cond, ◌&&◌, List, [], ◌∷◌, reverse, length, take, drop, Some, None, Option, nat_le, nat_lt}
+use Rattle.std.specs.Prelude.{ℕ, zero, suc, ◌+◌, ◌-◌, Bool, cond, ◌&&◌, List, [], ◌∷◌, map, reverse, length, take, drop, nat_le, nat_lt}
 use Rattle.undo_list.specs.declared.entry.Entry.{Entry}
+use Rattle.undo_list.specs.declared.entry.Stored.{Stored}
 use Rattle.undo_list.specs.declared.kind.Kind.{Kind}
 use Rattle.undo_list.specs.declared.kind.Kind.TheVariants.{Insertion, Deletion}
 use Rattle.undo_list.specs.Groups.{Held, PutIn, Took, Groups}
@@ -17,16 +18,19 @@ abbrev pub held_as : Kind → ℕ → ℕ → List ℕ → Held
 held_as Insertion p n bytes = PutIn p n
 held_as (Deletion distances) p n bytes = Took p bytes distances
 
+-- An entry with its kept bytes.
 abbrev pub held : Entry → List ℕ → Held
 held e bytes = held_as e.kind e.place e.count bytes
 
--- An entry, if there is one, with its kept bytes.
-abbrev pub read_as : Option Entry → List ℕ → Option Held
-read_as None bytes = None
-read_as (Some e) bytes = Some (held e bytes)
-
 abbrev pub nothing : Held
 nothing = PutIn 0 0
+
+-- The entries of what is stored, and the offsets: how many kept bytes come before each.
+abbrev pub entries_of : List Stored → List Entry
+entries_of ss = map (λ (s : Stored). s.entry) ss
+
+abbrev pub offsets_of : List Stored → List ℕ
+offsets_of ss = map (λ (s : Stored). s.before) ss
 
 -- How many kept bytes come before each entry, where `from` come before the first.
 abbrev pub offsets_from : ℕ → List Entry → List ℕ
@@ -72,3 +76,7 @@ grouped ends xs = record { closed = split 0 ends xs; opened = reverse (drop (las
 -- An end or an offset, where so many before it are gone.
 abbrev pub lowered : ℕ → ℕ → ℕ
 lowered gone n = n - gone
+
+-- An entry with its offset, where so many kept bytes before it are gone.
+abbrev pub shifted : ℕ → Stored → Stored
+shifted gone s = record { entry = s.entry; before = lowered gone s.before }

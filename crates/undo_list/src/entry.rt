@@ -1,4 +1,4 @@
-// One entry of the undo list.
+// One entry of the undo list, and how the list stores it.
 ghost use Rattle.std.specs.Prelude.{◌≡◌, ℕ, ◌<◌, ◌≤◌, true};
 ghost use Rattle.places.specs.Near.{near};
 ghost use Rattle.undo_list.specs.Kinds.{note, kept_of};
@@ -26,4 +26,11 @@ impl Entry {
             Kind::Deletion { distances: _ } => self.count,
         }
     }
+}
+
+// An entry as the list stores it, with how many kept bytes come before it.
+#[derive(Clone, Copy)]
+pub(crate) struct Stored {
+    pub(crate) entry: Entry,
+    pub(crate) before: usize,
 }

@@ -1,4 +1,5 @@
 // What an entry of the undo list is of: an insertion, or a deletion with its notes of the markers.
+// No `Option` of notes: an insertion is an edit of its own, and not a deletion's absence.
 
 #[derive(Clone, Copy)]
 pub enum Kind {

@@ -1,11 +1,11 @@
 // The limits of an undo list. They are tested by subtraction, so that no sum can pass the machine's
 // numbers.
 ghost use Rattle.std.specs.Prelude.{◌≡◌, ◌+◌, ◌≤◌, None, OnOk};
-ghost use Rattle.places.specs.Refusals.{answer};
+ghost use Rattle.store.specs.Edits.{answer};
 ghost use Rattle.undo_list.specs.Limits.{limit_check, count_check};
 
-use places::faults::{Fault, Refusal};
-use store::checks::MAX_COUNT;
+use places::faults::{Fault, Refusal, Refuses};
+use store::checks::bad_count;
 
 pub const MAX_ENTRIES: usize = 512;
 
@@ -29,13 +29,10 @@ pub(crate) fn check_limits(held: Counts, more: Counts, place: usize) -> Result<(
     ensures value { result ≡ answer (limit_check (held.entries + more.entries) (held.bytes + more.bytes) (held.groups + more.groups)) place }
     ensures passed { OnOk result ((limit_check (held.entries + more.entries) (held.bytes + more.bytes) (held.groups + more.groups) ≡ None) × (held.entries + more.entries ≤ 512) × (held.bytes + more.bytes ≤ 16384) × (held.groups + more.groups ≤ 256)) }
 {
-    if more.entries > MAX_ENTRIES - held.entries {
-        return Err(Refusal::UndoList.at(place));
-    }
-    if more.bytes > MAX_BYTES - held.bytes {
-        return Err(Refusal::UndoList.at(place));
-    }
-    if more.groups > MAX_GROUPS - held.groups {
+    if more.entries > MAX_ENTRIES - held.entries
+        || more.bytes > MAX_BYTES - held.bytes
+        || more.groups > MAX_GROUPS - held.groups
+    {
         return Err(Refusal::UndoList.at(place));
     }
     Ok(())
@@ -46,7 +43,7 @@ pub fn check_count(n: usize, place: usize) -> Result<(), Fault>
     ensures value { result ≡ answer (count_check n) place }
     ensures passed { OnOk result ((count_check n ≡ None) × (1 ≤ n) × (n ≤ 4096)) }
 {
-    if n == 0 || n > MAX_COUNT {
+    if bad_count(n) {
         return Err(Refusal::Count.at(place));
     }
     Ok(())

@@ -1,36 +1,15 @@
 // Moving the gap, filling it and widening it.
-ghost use Rattle.std.specs.Prelude.{◌≡◌, ◌+◌, ◌≤◌, [], length, vec_len};
+ghost use Rattle.std.specs.Prelude.{◌≡◌, ◌+◌, ◌≤◌, length};
 ghost use Rattle.gap_buffer.specs.GapText.{gap_text, gap_room};
 ghost use Rattle.store.specs.Edits.{deleted_at, inserted_at};
 
 use super::GapBuffer;
-use crate::gap;
 
 impl GapBuffer {
-    // A buffer whose whole memory is the gap.
-    pub(crate) fn all_gap(memory: Vec<u8>) -> GapBuffer
-        requires { vec_len memory ≤ 32768 }
-        ensures text { gap_text result ≡ [] }
-        ensures room { gap_room result ≡ vec_len memory }
-    {
-        let gap_end = memory.len();
-        GapBuffer {
-            memory,
-            gap_start: 0,
-            gap_end,
-        }
-    }
-
-    pub(crate) fn text_len(&self) -> usize
-        ensures sum { result + self.now.gap_end ≡ self.now.gap_start + gap_room self.now }
-        ensures text { result ≡ length (gap_text self.now) }
-    {
-        self.gap_start + (self.memory.len() - self.gap_end)
-    }
-
     // Puts the gap at p; only the bytes between the gap and p move.
+    #[tactic(auto, using(crate::proofs::Gapped::moved_left, crate::proofs::Gapped::moved_right))]
     pub(crate) fn move_gap(&mut self, p: usize)
-        requires { p + self.old.gap_end ≤ self.old.gap_start + gap_room self.old }
+        requires { p ≤ length (gap_text self.old) }
         ensures text { gap_text self.new ≡ gap_text self.old }
         ensures room { gap_room self.new ≡ gap_room self.old }
         ensures at { self.new.gap_start ≡ p }
@@ -39,27 +18,31 @@ impl GapBuffer {
         let start = self.gap_start;
         let end = self.gap_end;
         if p < start {
-            gap::open_earlier(&mut self.memory, p, start, end);
             self.gap_end = end - (start - p);
+            self.memory.copy_within(p..start, self.gap_end);
         } else {
-            gap::open_later(&mut self.memory, p, start, end);
             self.gap_end = end + (p - start);
+            self.memory.copy_within(end..self.gap_end, start);
         }
         self.gap_start = p;
     }
 
     // Takes the bytes into the text, at the front of the gap.
+    #[tactic(auto, using(crate::proofs::Gapped::filled, std::proofs::lemmas::List::with_items_is))]
     pub(crate) fn fill(&mut self, bytes: &[u8])
         requires { self.old.gap_start + length bytes.now ≤ self.old.gap_end }
         ensures text { gap_text self.new ≡ inserted_at (gap_text self.old) self.old.gap_start bytes.now }
         ensures room { gap_room self.new ≡ gap_room self.old }
         ensures long { length (gap_text self.new) ≡ length (gap_text self.old) + length bytes.now }
     {
-        gap::fill_front(&mut self.memory, self.gap_start, self.gap_end, bytes);
-        self.gap_start += bytes.len();
+        let start = self.gap_start;
+        let filled = start + bytes.len();
+        self.memory[start..filled].copy_from_slice(bytes);
+        self.gap_start = filled;
     }
 
     // Gives the n bytes behind the gap up to it.
+    #[tactic(auto, using(crate::proofs::Gapped::cut))]
     pub(crate) fn widen(&mut self, n: usize)
         requires { self.old.gap_end + n ≤ gap_room self.old }
         ensures text { gap_text self.new ≡ deleted_at (gap_text self.old) self.old.gap_start n }

@@ -4,7 +4,7 @@ ghost use Rattle.std.proofs.Common.{rules};
 
 use super::PieceTable;
 use store::checks::{check_copy, check_delete, check_insert};
-use store::faults::Fault;
+use store::faults::{Fault, Refusal};
 use store::text_store::TextStore;
 
 impl TextStore for PieceTable {
@@ -21,34 +21,32 @@ impl TextStore for PieceTable {
     }
 
     fn capacity(&self) -> usize {
-        self.live.len()
+        self.room
     }
 
     fn byte_at(&self, p: usize) -> Option<u8> {
         if p < self.len() {
-            Some(self.byte(p))
+            Some(self.text().byte(p))
         } else {
             None
         }
     }
 
-    fn copy(&self, p: usize, n: usize, area: &mut [u8]) -> Result<(), Fault> {
+    fn copy(&self, p: usize, n: usize, area: &mut [u8]) -> Result<(), Fault<Refusal>> {
         check_copy(self.len(), p, n, area.len())?;
-        self.copy_out(p, n, area);
+        self.text().copy_out(p, n, area);
         Ok(())
     }
 
-    fn insert(&mut self, p: usize, bytes: &[u8]) -> Result<(), Fault> {
+    fn insert(&mut self, p: usize, bytes: &[u8]) -> Result<(), Fault<Refusal>> {
         let len = self.len();
         check_insert(len, self.capacity(), p, bytes.len())?;
-        self.make_room(bytes.len());
         self.put(p, bytes);
         Ok(())
     }
 
-    fn delete(&mut self, p: usize, n: usize) -> Result<(), Fault> {
+    fn delete(&mut self, p: usize, n: usize) -> Result<(), Fault<Refusal>> {
         check_delete(self.len(), p, n)?;
-        self.make_room(0);
         self.cut(p, n);
         Ok(())
     }

@@ -4,7 +4,7 @@ ghost use Rattle.places.specs.declared.edit.Edit.TheVariants.{Insertion, Deletio
 ghost use Rattle.places.specs.Carry.{after};
 ghost use Rattle.places.specs.Markers.{markers_noted};
 ghost use Rattle.places.specs.Model.{model};
-ghost use Rattle.places.specs.Refusals.{answer};
+ghost use Rattle.store.specs.Edits.{answer};
 ghost use Rattle.undo_list.specs.Limits.{entry_check};
 ghost use Rattle.session.specs.Calls.{insert_check, insert_world, delete_check, delete_world};
 ghost use Rattle.session.specs.Admitted.{Removable};
@@ -41,43 +41,40 @@ fn through_deletion(places: Places, p: usize, n: usize) -> (Notes, Places)
 
 impl<S: TextStore> Session<S> {
     // Puts the bytes in at p, carries markers and spans, and records the insertion.
-    fn put_in(&mut self, places: Places, p: usize, bytes: &[u8])
-        requires places { model places ≡ (view S.TextStore.text S.TextStore.room self.old).places }
-        requires text { Insertable (view S.TextStore.text S.TextStore.room self.old).places (view S.TextStore.text S.TextStore.room self.old).room p (length bytes.now) }
-        requires list { entry_check (view S.TextStore.text S.TextStore.room self.old).groups 0 ≡ None }
-        ensures view { view S.TextStore.text S.TextStore.room self.new ≡ inserted p bytes.now (view S.TextStore.text S.TextStore.room self.old) }
+    fn put_in(&mut self, p: usize, bytes: &[u8])
+        requires text { Insertable (view self.old).places (view self.old).room p (length bytes.now) }
+        requires list { entry_check (view self.old).groups 0 ≡ None }
+        ensures view { view self.new ≡ inserted p bytes.now (view self.old) }
         ensures state { self.new.state ≡ self.old.state }
     {
         let n = bytes.len();
         let _ = self.store.insert(p, bytes);
         let _ = self.list.record_insertion(p, n);
-        self.places = after_insertion(places, p, n);
+        self.places = after_insertion(self.places, p, n);
     }
 
     // Puts the bytes in at p: state, count, place, window, spans, capacity, undo list.
     pub fn insert(&mut self, p: usize, bytes: &[u8]) -> Result<(), Fault>
-        ensures value { result ≡ answer (insert_check (view S.TextStore.text S.TextStore.room self.old) p (length bytes.now)) p }
-        ensures world { view S.TextStore.text S.TextStore.room self.new ≡ insert_world (view S.TextStore.text S.TextStore.room self.old) p bytes.now }
+        ensures value { result ≡ answer (insert_check (view self.old) p (length bytes.now)) p }
+        ensures world { view self.new ≡ insert_world (view self.old) p bytes.now }
     {
         let next = next_state(self.state, Kind::Insert, p)?;
-        let places = self.places_now();
-        admit_insertion(places, self.store.capacity(), p, bytes.len())?;
+        admit_insertion(self.places, self.store.capacity(), p, bytes.len())?;
         self.list.check_entry(0, p)?;
-        self.put_in(places, p, bytes);
+        self.put_in(p, bytes);
         self.go_to(next);
         Ok(())
     }
 
     // Takes n bytes from p on out: markers are noted before, then all is carried, and the deletion is
     // recorded with its bytes and notes.
-    pub(super) fn take_out(&mut self, places: Places, p: usize, n: usize)
-        requires places { model places ≡ (view S.TextStore.text S.TextStore.room self.old).places }
-        requires admitted { Removable (view S.TextStore.text S.TextStore.room self.old) p n }
-        ensures view { view S.TextStore.text S.TextStore.room self.new ≡ deleted p n (view S.TextStore.text S.TextStore.room self.old) }
+    pub(super) fn take_out(&mut self, p: usize, n: usize)
+        requires { Removable (view self.old) p n }
+        ensures view { view self.new ≡ deleted p n (view self.old) }
         ensures state { self.new.state ≡ self.old.state }
         ensures made { self.new.made ≡ self.old.made }
     {
-        let (notes, after) = through_deletion(places, p, n);
+        let (notes, after) = through_deletion(self.places, p, n);
         let mut area = [0u8; 4096];
         let _ = self.store.copy(p, n, &mut area);
         let _ = self.list.record_deletion(p, &area[0..n], notes);
@@ -87,14 +84,13 @@ impl<S: TextStore> Session<S> {
 
     // Takes n bytes from p on out: state, count, place, window, spans, undo list.
     pub fn delete(&mut self, p: usize, n: usize) -> Result<(), Fault>
-        ensures value { result ≡ answer (delete_check (view S.TextStore.text S.TextStore.room self.old) p n) p }
-        ensures world { view S.TextStore.text S.TextStore.room self.new ≡ delete_world (view S.TextStore.text S.TextStore.room self.old) p n }
+        ensures value { result ≡ answer (delete_check (view self.old) p n) p }
+        ensures world { view self.new ≡ delete_world (view self.old) p n }
     {
         let next = next_state(self.state, Kind::Delete, p)?;
-        let places = self.places_now();
-        admit_deletion(places, p, n)?;
+        admit_deletion(self.places, p, n)?;
         self.list.check_entry(n, p)?;
-        self.take_out(places, p, n);
+        self.take_out(p, n);
         self.go_to(next);
         Ok(())
     }

@@ -1,6 +1,6 @@
 // The undo list's own calls: a boundary, and a trim.
 ghost use Rattle.std.specs.Prelude.{◌≡◌};
-ghost use Rattle.places.specs.Refusals.{answer};
+ghost use Rattle.store.specs.Edits.{answer};
 ghost use Rattle.session.specs.Calls.{boundary_check, boundary_world, trim_call_check, trim_world};
 ghost use Rattle.session.specs.View.{view};
 
@@ -12,9 +12,10 @@ use store::text_store::TextStore;
 
 impl<S: TextStore> Session<S> {
     // Closes the open group, if there is one: state.
+    #[tactic(auto, unfolding(crate::specs::View::view, crate::specs::Calls::boundary_check, crate::specs::Calls::boundary_world))]
     pub fn boundary(&mut self) -> Result<(), Fault>
-        ensures value { result ≡ answer (boundary_check (view S.TextStore.text S.TextStore.room self.old)) 0 }
-        ensures world { view S.TextStore.text S.TextStore.room self.new ≡ boundary_world (view S.TextStore.text S.TextStore.room self.old) }
+        ensures value { result ≡ answer (boundary_check (view self.old)) 0 }
+        ensures world { view self.new ≡ boundary_world (view self.old) }
     {
         let next = next_state(self.state, Kind::Boundary, 0)?;
         self.list.close();
@@ -23,9 +24,10 @@ impl<S: TextStore> Session<S> {
     }
 
     // Drops the k oldest closed groups: state, argument, presence.
+    #[tactic(auto, unfolding(crate::specs::View::view, crate::specs::Calls::trim_call_check, crate::specs::Calls::trim_world))]
     pub fn trim(&mut self, k: usize) -> Result<(), Fault>
-        ensures value { result ≡ answer (trim_call_check (view S.TextStore.text S.TextStore.room self.old) k) 0 }
-        ensures world { view S.TextStore.text S.TextStore.room self.new ≡ trim_world (view S.TextStore.text S.TextStore.room self.old) k }
+        ensures value { result ≡ answer (trim_call_check (view self.old) k) 0 }
+        ensures world { view self.new ≡ trim_world (view self.old) k }
     {
         let next = next_state(self.state, Kind::Trim, 0)?;
         self.list.trim(k)?;

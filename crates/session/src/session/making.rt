@@ -30,7 +30,7 @@ impl<S: TextStore> Session<S> {
     // A session over a store with any text: all markers at 0, no span, no narrowing, an empty undo
     // list. Where memory is wanting it hands the store back.
     pub fn new(heap: Global, store: S) -> Result<Session<S>, S>
-        ensures made { IfOk result (λ s. view S.TextStore.text S.TextStore.room s ≡ new_world (S.TextStore.text store) (S.TextStore.room store)) }
+        ensures made { IfOk result (λ s. view s ≡ new_world (S.TextStore.text store) (S.TextStore.room store)) }
         ensures back { IfErr result (λ back. back ≡ store) }
     {
         match reserve(heap) {
@@ -43,7 +43,7 @@ impl<S: TextStore> Session<S> {
         requires list { Empty (list-view list) }
         requires stack { (made.items ≡ []) × (256 ≤ vec_capacity made) }
         requires edits { 512 ≤ vec_capacity edits }
-        ensures { view S.TextStore.text S.TextStore.room result ≡ new_world (S.TextStore.text store) (S.TextStore.room store) }
+        ensures { view result ≡ new_world (S.TextStore.text store) (S.TextStore.room store) }
     {
         let places = Places::new(store.len());
         Session {
@@ -59,8 +59,8 @@ impl<S: TextStore> Session<S> {
 
     // The store, with the text that the session had. All else is let go.
     pub fn into_store(self) -> S
-        ensures text { S.TextStore.text result ≡ (view S.TextStore.text S.TextStore.room self).text }
-        ensures room { S.TextStore.room result ≡ (view S.TextStore.text S.TextStore.room self).room }
+        ensures text { S.TextStore.text result ≡ (view self).text }
+        ensures room { S.TextStore.room result ≡ (view self).room }
     {
         let Session {
             store,

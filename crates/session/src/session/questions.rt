@@ -8,79 +8,89 @@ ghost use Rattle.session.specs.View.{view};
 
 use crate::session::Session;
 use places::faults::Fault;
-use store::faults::Fault as StoreFault;
+use store::faults::{Fault as FaultOf, Refusal as StoreRefusal};
 use store::text_store::TextStore;
 
 impl<S: TextStore> Session<S> {
+    #[tactic(auto, unfolding(crate::specs::View::view))]
     pub fn len(&self) -> usize
-        ensures { result ≡ length (view S.TextStore.text S.TextStore.room self.now).text }
+        ensures { result ≡ length (view self.now).text }
     {
         self.store.len()
     }
 
+    #[tactic(auto, unfolding(crate::specs::View::view))]
     pub fn capacity(&self) -> usize
-        ensures { result ≡ (view S.TextStore.text S.TextStore.room self.now).room }
+        ensures { result ≡ (view self.now).room }
     {
         self.store.capacity()
     }
 
     // The byte at p, or absence from the length on.
+    #[tactic(auto, unfolding(crate::specs::View::view))]
     pub fn byte_at(&self, p: usize) -> Option<u8>
-        ensures { result ≡ byte_at (view S.TextStore.text S.TextStore.room self.now).text p }
+        ensures { result ≡ byte_at (view self.now).text p }
     {
         self.store.byte_at(p)
     }
 
     // Writes n bytes from p on into the front of the area; its rest stays.
-    pub fn copy(&self, p: usize, n: usize, area: &mut [u8]) -> Result<(), StoreFault>
-        ensures value { result ≡ answer (copy_check (length (view S.TextStore.text S.TextStore.room self.now).text) p n (length area.old)) p }
-        ensures area { area.new ≡ after_copy (view S.TextStore.text S.TextStore.room self.now).text p n area.old }
-        ensures done { OnOk result (Copied (view S.TextStore.text S.TextStore.room self.now).text p n area.old area.new) }
+    #[tactic(auto, unfolding(crate::specs::View::view))]
+    pub fn copy(&self, p: usize, n: usize, area: &mut [u8]) -> Result<(), FaultOf<StoreRefusal>>
+        ensures value { result ≡ answer (copy_check (length (view self.now).text) p n (length area.old)) p }
+        ensures area { area.new ≡ after_copy (view self.now).text p n area.old }
+        ensures done { OnOk result (Copied (view self.now).text p n area.old area.new) }
         ensures few { OnOk result (n ≤ 32768) }
     {
         self.store.copy(p, n, area)
     }
 
     // Where a marker stands.
+    #[tactic(auto, unfolding(crate::specs::View::view))]
     pub fn marker(&self, number: usize) -> Result<usize, Fault>
-        ensures { result ≡ outcome (marker_check number) 0 (slice_index (view S.TextStore.text S.TextStore.room self.now).places.markers number) }
+        ensures { result ≡ outcome (marker_check number) 0 (slice_index (view self.now).places.markers number) }
     {
-        self.places_now().marker(number)
+        self.places.marker(number)
     }
 
     // All sixteen markers.
+    #[tactic(auto, unfolding(crate::specs::View::view))]
     pub fn markers(&self) -> [usize; 16]
-        ensures { result ≡ (view S.TextStore.text S.TextStore.room self.now).places.markers }
+        ensures { result ≡ (view self.now).places.markers }
     {
-        self.places_now().markers
+        self.places.markers
     }
 
     // How many bytes the window leaves out before and behind.
+    #[tactic(auto, unfolding(crate::specs::View::view))]
     pub fn window(&self) -> (usize, usize)
-        ensures before { result.0 ≡ (view S.TextStore.text S.TextStore.room self.now).places.before }
-        ensures behind { result.1 ≡ (view S.TextStore.text S.TextStore.room self.now).places.behind }
+        ensures before { result.0 ≡ (view self.now).places.before }
+        ensures behind { result.1 ≡ (view self.now).places.behind }
     {
-        let places = self.places_now();
+        let places = self.places;
         (places.before, places.behind)
     }
 
     // How many spans there are.
+    #[tactic(auto, unfolding(crate::specs::View::view))]
     pub fn spans(&self) -> usize
-        ensures { result ≡ length (view S.TextStore.text S.TextStore.room self.now).places.spans }
+        ensures { result ≡ length (view self.now).places.spans }
     {
-        self.places_now().count
+        self.places.spans.len()
     }
 
     // How many entries the undo list has.
+    #[tactic(auto, unfolding(crate::specs::View::view))]
     pub fn entries(&self) -> usize
-        ensures { result ≡ entries_in (view S.TextStore.text S.TextStore.room self.now).groups }
+        ensures { result ≡ entries_in (view self.now).groups }
     {
         self.list.entries()
     }
 
     // How many groups the undo list has, the open one counted.
+    #[tactic(auto, unfolding(crate::specs::View::view))]
     pub fn groups(&self) -> usize
-        ensures { result ≡ groups_in (view S.TextStore.text S.TextStore.room self.now).groups }
+        ensures { result ≡ groups_in (view self.now).groups }
     {
         self.list.groups()
     }

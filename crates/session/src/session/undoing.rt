@@ -15,19 +15,18 @@ impl<S: TextStore> Session<S> {
     // Inverts entry i of a group, counted from the newest: an insertion's range goes, a deletion's kept
     // bytes come back with its notes.
     fn invert_entry(&mut self, group: usize, i: usize)
-        requires there { i < length (group_at (view S.TextStore.text S.TextStore.room self.old).groups group) }
-        requires admitted { AdmitsOne (slice_index_or (group_at (view S.TextStore.text S.TextStore.room self.old).groups group) i nothing) (view S.TextStore.text S.TextStore.room self.old) }
-        ensures view { view S.TextStore.text S.TextStore.room self.new ≡ invert (slice_index_or (group_at (view S.TextStore.text S.TextStore.room self.old).groups group) i nothing) (view S.TextStore.text S.TextStore.room self.old) }
+        requires there { i < length (group_at (view self.old).groups group) }
+        requires admitted { AdmitsOne (slice_index_or (group_at (view self.old).groups group) i nothing) (view self.old) }
+        ensures view { view self.new ≡ invert (slice_index_or (group_at (view self.old).groups group) i nothing) (view self.old) }
         ensures state { self.new.state ≡ self.old.state }
         ensures made { self.new.made ≡ self.old.made }
     {
-        let places = self.places_now();
-        let reading = self.list.read(group, i);
-        let Some(entry) = reading.entry else {
+        let Some(reading) = self.list.read(group, i) else {
             return;
         };
+        let entry = reading.entry;
         match entry.kind {
-            Kind::Insertion => self.take_out(places, entry.place, entry.count),
+            Kind::Insertion => self.take_out(entry.place, entry.count),
             Kind::Deletion { distances } => {
                 let notes = Notes {
                     count: entry.count,
@@ -35,14 +34,14 @@ impl<S: TextStore> Session<S> {
                 };
                 let _ = self.store.insert(entry.place, reading.kept);
                 let _ = self.list.record_insertion(entry.place, entry.count);
-                self.places = places.put_back(entry.place, notes);
+                self.places = self.places.put_back(entry.place, notes);
             }
         }
     }
 
     // Closes the open group, if there is one.
     pub(super) fn close_group(&mut self)
-        ensures view { view S.TextStore.text S.TextStore.room self.new ≡ with_closed (view S.TextStore.text S.TextStore.room self.old) }
+        ensures view { view self.new ≡ with_closed (view self.old) }
         ensures state { self.new.state ≡ self.old.state }
         ensures made { self.new.made ≡ self.old.made }
     {
@@ -51,13 +50,14 @@ impl<S: TextStore> Session<S> {
 
     // Inverts all entries of a closed group, newest first.
     fn invert_all(&mut self, group: usize)
-        requires closed { group < length (view S.TextStore.text S.TextStore.room self.old).groups.closed }
-        requires admitted { Admits (group_at (view S.TextStore.text S.TextStore.room self.old).groups group) (view S.TextStore.text S.TextStore.room self.old) }
-        ensures view { view S.TextStore.text S.TextStore.room self.new ≡ invert_all (group_at (view S.TextStore.text S.TextStore.room self.old).groups group) (view S.TextStore.text S.TextStore.room self.old) }
+        requires closed { group < length (view self.old).groups.closed }
+        requires admitted { Admits (group_at (view self.old).groups group) (view self.old) }
+        ensures view { view self.new ≡ invert_all (group_at (view self.old).groups group) (view self.old) }
         ensures state { self.new.state ≡ self.old.state }
         ensures made { self.new.made ≡ self.old.made }
     {
         let count = self.list.group_len(group);
+        // by their numbers, since each inversion adds to the list that the entries are read from
         for i in 0..count {
             self.invert_entry(group, i);
         }

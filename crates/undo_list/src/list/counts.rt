@@ -1,5 +1,5 @@
 // How much an undo list holds.
-ghost use Rattle.std.specs.Prelude.{◌≡◌, ◌≤◌, length};
+ghost use Rattle.std.specs.Prelude.{◌≡◌, ◌≤◌, false, [], length};
 ghost use Rattle.undo_list.specs.Groups.{entries_in, bytes_in, groups_in, has_open};
 ghost use Rattle.undo_list.specs.View.{view};
 
@@ -7,19 +7,21 @@ use crate::list::UndoList;
 
 impl UndoList {
     // How many entries there are.
+    #[tactic(auto, using(crate::proofs::Lists::entries_count))]
     pub fn entries(&self) -> usize
         ensures value { result ≡ entries_in (view self.now) }
         ensures few { result ≤ 512 }
     {
-        self.entry_count()
+        self.stored.len()
     }
 
     // How many bytes the deletions keep.
+    #[tactic(auto, using(crate::proofs::Lists::bytes_count))]
     pub fn bytes(&self) -> usize
         ensures value { result ≡ bytes_in (view self.now) }
         ensures few { result ≤ 16384 }
     {
-        self.byte_count()
+        self.kept.len()
     }
 
     // How many groups there are, the open one counted.
@@ -32,17 +34,21 @@ impl UndoList {
     }
 
     // How many groups are closed.
+    #[tactic(auto, using(crate::proofs::Lists::closed_count, crate::proofs::Lists::groups_count))]
     pub fn closed_groups(&self) -> usize
         ensures value { result ≡ length (view self.now).closed }
         ensures few { result ≤ 256 }
         ensures all { groups_in (view self.now) ≤ 256 }
     {
-        self.closed_count()
+        self.ends.len()
     }
 
+    // Whether a group is open.
+    #[tactic(auto, using(crate::proofs::Lists::open_test, crate::proofs::Lists::not_open))]
     pub fn is_open(&self) -> bool
-        ensures { result ≡ has_open (view self.now) }
+        ensures value { result ≡ has_open (view self.now) }
+        ensures none { result ≡ false → (view self.now).opened ≡ [] }
     {
-        self.has_open()
+        self.last_end() < self.entries()
     }
 }

@@ -1,35 +1,12 @@
-// What the parts of the list say: how much is held, and what comes before each group and entry.
-ghost use Rattle.std.specs.Prelude.{◌≡◌, ◌≤◌, false, [], length, take, vec_len};
-ghost use Rattle.undo_list.specs.Groups.{entries_in, bytes_in, has_open, groups_in};
-ghost use Rattle.undo_list.specs.Spell.{last_end, start, total};
-ghost use Rattle.undo_list.specs.View.{view};
+// What the parts of the list say of what comes before each group and entry.
+ghost use Rattle.std.specs.Prelude.{◌≡◌, ◌≤◌, take, vec_len};
+ghost use Rattle.undo_list.specs.Spell.{entries_of, last_end, start, total};
 
 use crate::list::UndoList;
 
 impl UndoList {
-    pub(super) fn entry_count(&self) -> usize
-        ensures value { result ≡ entries_in (view self.now) }
-        ensures few { result ≤ 512 }
-    {
-        self.entries.len()
-    }
-
-    pub(super) fn byte_count(&self) -> usize
-        ensures value { result ≡ bytes_in (view self.now) }
-        ensures few { result ≤ 16384 }
-    {
-        self.kept.len()
-    }
-
-    pub(super) fn closed_count(&self) -> usize
-        ensures value { result ≡ length (view self.now).closed }
-        ensures few { result ≤ 256 }
-        ensures all { groups_in (view self.now) ≤ 256 }
-    {
-        self.ends.len()
-    }
-
     // How many entries come before group j.
+    #[tactic(auto, using(crate::proofs::Lists::start_none, crate::proofs::Lists::start_some))]
     pub(super) fn start_of(&self, j: usize) -> usize
         requires { j ≤ vec_len self.now.ends }
         ensures { result ≡ start 0 self.now.ends.items j }
@@ -41,29 +18,24 @@ impl UndoList {
     }
 
     // How many entries the closed groups have.
+    #[tactic(auto, using(crate::proofs::Lists::start_last, crate::proofs::Lists::ends_within))]
     pub(super) fn last_end(&self) -> usize
         ensures value { result ≡ last_end 0 self.now.ends.items }
-        ensures within { result ≤ vec_len self.now.entries }
+        ensures within { result ≤ vec_len self.now.stored }
     {
         self.start_of(self.ends.len())
     }
 
     // How many bytes the first i entries keep.
+    #[tactic(auto, using(crate::proofs::Ranges::all_kept, crate::proofs::Ranges::offset_is, crate::proofs::Ranges::sum_within))]
     pub(super) fn kept_before(&self, i: usize) -> usize
-        requires { i ≤ vec_len self.now.entries }
-        ensures value { result ≡ total (take i self.now.entries.items) }
+        requires { i ≤ vec_len self.now.stored }
+        ensures value { result ≡ total (take i (entries_of self.now.stored.items)) }
         ensures few { result ≤ vec_len self.now.kept }
     {
-        if i == self.entries.len() {
+        if i == self.stored.len() {
             return self.kept.len();
         }
-        self.offsets[i]
-    }
-
-    pub(super) fn has_open(&self) -> bool
-        ensures value { result ≡ has_open (view self.now) }
-        ensures none { result ≡ false → (view self.now).opened ≡ [] }
-    {
-        self.last_end() < self.entries.len()
+        self.stored[i].before
     }
 }

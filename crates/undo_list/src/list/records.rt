@@ -1,13 +1,14 @@
 // What is recorded, and the closing of the open group.
 ghost use Rattle.std.specs.Prelude.{◌≡◌, ◌+◌, ◌≤◌, [], length, None, OnOk};
-ghost use Rattle.places.specs.Refusals.{answer};
+ghost use Rattle.store.specs.Edits.{answer, unless};
 ghost use Rattle.undo_list.specs.Groups.{PutIn, Took, entries_in, bytes_in, groups_in, recorded, after_close};
-ghost use Rattle.undo_list.specs.Limits.{entry_check, insertion_check, deletion_check, group_check, unless, Recorded, Started};
+ghost use Rattle.undo_list.specs.Limits.{entry_check, insertion_check, deletion_check, group_check, Recorded, Started};
 ghost use Rattle.undo_list.specs.View.{view};
 
 use crate::limits::{Counts, check_count, check_limits};
 use crate::list::UndoList;
-use places::faults::{Fault, Refusal};
+use crate::list::pushes::{deletion, insertion};
+use places::faults::{Fault, Refusal, Refuses};
 use places::notes::Notes;
 
 impl UndoList {
@@ -16,10 +17,11 @@ impl UndoList {
         ensures value { result ≡ answer (entry_check (view self.now) bytes) place }
         ensures passed { OnOk result ((entry_check (view self.now) bytes ≡ None) × (entries_in (view self.now) + 1 ≤ 512) × (bytes_in (view self.now) + bytes ≤ 16384) × (length (view self.now).closed + 1 ≤ 256)) }
     {
+        // Not a method for this and `check_group`: it would be told which groups to count.
         let held = Counts {
-            entries: self.entry_count(),
-            bytes: self.byte_count(),
-            groups: self.closed_count(),
+            entries: self.entries(),
+            bytes: self.bytes(),
+            groups: self.closed_groups(),
         };
         let more = Counts {
             entries: 1,
@@ -37,7 +39,7 @@ impl UndoList {
     {
         check_count(n, p)?;
         self.check_entry(0, p)?;
-        self.push_insertion(p, n);
+        self.push(insertion(p, n), &[]);
         Ok(())
     }
 
@@ -52,7 +54,7 @@ impl UndoList {
             return Err(Refusal::Count.at(p));
         }
         self.check_entry(bytes.len(), p)?;
-        self.push_deletion(p, bytes, notes);
+        self.push(deletion(p, notes), bytes);
         Ok(())
     }
 
@@ -64,7 +66,7 @@ impl UndoList {
         ensures groups { length (view self.new).closed ≡ groups_in (view self.old) }
         ensures opened { (view self.new).opened ≡ [] }
     {
-        if self.has_open() {
+        if self.is_open() {
             self.push_end();
         }
     }

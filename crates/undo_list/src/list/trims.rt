@@ -1,15 +1,15 @@
 // Trim, which drops the oldest closed groups and frees what they filled; and the cut back of the
 // open group to what it was.
 ghost use Rattle.std.specs.Prelude.{◌≡◌, ◌-◌, ◌≤◌, min, length, OnOk};
-ghost use Rattle.places.specs.Refusals.{answer};
+ghost use Rattle.store.specs.Edits.{answer, unless};
 ghost use Rattle.undo_list.specs.Groups.{entries_in, bytes_in, trimmed, cut};
-ghost use Rattle.undo_list.specs.Limits.{trim_check, unless, Trimmed};
+ghost use Rattle.undo_list.specs.Limits.{trim_check, Trimmed};
 ghost use Rattle.undo_list.specs.View.{view};
 
-use crate::fronts::{drop_held, drop_numbers};
+use crate::fronts::{drop_ends, drop_held};
 use crate::limits::MAX_GROUPS;
 use crate::list::UndoList;
-use places::faults::{Fault, Refusal};
+use places::faults::{Fault, Refusal, Refuses};
 
 impl UndoList {
     // Drops the k oldest closed groups: argument, then presence.
@@ -21,7 +21,7 @@ impl UndoList {
         if k == 0 || k > MAX_GROUPS {
             return Err(Refusal::Argument.at(0));
         }
-        if k > self.closed_count() {
+        if k > self.closed_groups() {
             return Err(Refusal::Presence.at(0));
         }
         self.drop_groups(k);
@@ -38,9 +38,8 @@ impl UndoList {
     {
         let entries = self.start_of(k);
         let bytes = self.kept_before(entries);
-        drop_held(&mut self.entries, &mut self.kept, entries, bytes);
-        drop_numbers(&mut self.offsets, entries, bytes);
-        drop_numbers(&mut self.ends, k, entries);
+        drop_held(&mut self.stored, &mut self.kept, entries, bytes);
+        drop_ends(&mut self.ends, k, entries);
     }
 
     // Cuts the open group back, with the bytes that it keeps, until so many entries are left in
@@ -51,7 +50,7 @@ impl UndoList {
         ensures entries { entries_in (view self.new) ≡ entries_in (view self.old) - min (entries_in (view self.old) - entries) (length (view self.old).opened) }
         ensures bytes { bytes_in (view self.new) ≤ bytes_in (view self.old) }
     {
-        let newest = self.entry_count().saturating_sub(entries);
+        let newest = self.entries().saturating_sub(entries);
         self.drop_newest(newest);
     }
 
@@ -63,10 +62,9 @@ impl UndoList {
         ensures bytes { bytes_in (view self.new) ≤ bytes_in (view self.old) }
     {
         let closed = self.last_end();
-        let left = self.entries.len().saturating_sub(n).max(closed);
+        let left = self.stored.len().saturating_sub(n).max(closed);
         let bytes = self.kept_before(left);
-        self.entries.truncate(left);
-        self.offsets.truncate(left);
+        self.stored.truncate(left);
         self.kept.truncate(bytes);
     }
 }

@@ -1,11 +1,9 @@
-use Rattle.std.proofs.Common.{◌≡◌, ◌-◌, ◌≤◌, ◌++◌, length, take}
+use Rattle.std.proofs.Common.{◌≡◌, ◌++◌}
+use Rattle.std.specs.Slice.Iter.{chunks_rest, chunks_size}
 use Rattle.corrections.proofs.whole.append_in_parts.Given as goal
 
-abbrev pub invariant-loop-done : goal.invariant-loop-done
-invariant-loop-done g l =
-    (l.done ≤ length l.bytes)
-    × (g.S.TextStore.text l.store ≡ g.S.TextStore.text l.initial.store ++ take l.done l.bytes)
+abbrev pub invariant-loop-part : goal.invariant-loop-part
+invariant-loop-part g l =
+    (g.S.TextStore.text l.store ++ chunks_rest l.part-iterator ≡ g.S.TextStore.text l.initial.store ++ l.fn.bytes)
     × (g.S.TextStore.room l.store ≡ g.S.TextStore.room l.initial.store)
-
-abbrev pub decreases-loop-done : goal.decreases-loop-done
-decreases-loop-done g l = length l.bytes - l.done
+    × (chunks_size l.part-iterator ≡ 4096)

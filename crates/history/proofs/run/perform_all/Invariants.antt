@@ -9,5 +9,5 @@ abbrev pub invariant-loop-call : goal.invariant-loop-call
 invariant-loop-call g l =
     (vec_len l.answers ≡ l.call-index)
     × (length l.calls ≤ vec_capacity l.answers)
-    × (map reply_of (vec_items l.answers) ≡ replies (view g.S.TextStore.text g.S.TextStore.room l.initial.session) (map said_by (take l.call-index l.calls)))
-    × (view g.S.TextStore.text g.S.TextStore.room l.session ≡ world_after (view g.S.TextStore.text g.S.TextStore.room l.initial.session) (map said_by (take l.call-index l.calls)))
+    × (map reply_of (vec_items l.answers) ≡ replies (view l.initial.session) (map said_by (take l.call-index l.calls)))
+    × (view l.session ≡ world_after (view l.initial.session) (map said_by (take l.call-index l.calls)))

@@ -1,17 +1,10 @@
-use Rattle.std.proofs.Common.{◌≡◌, ap, ◌∙◌, arith}
-use Rattle.places.specs.declared.edit.Edit.TheVariants.{Insertion, Deletion}
-use Rattle.places.specs.Carry.{after}
+use Rattle.std.proofs.Common.{arith}
 use Rattle.places.specs.Model.{model}
 use Rattle.places.proofs.Back.{inserted_and_deleted}
 use Rattle.places.proofs.laws.inserted_and_deleted.Goals as goal
 
-pub returns : goal.returns
-returns c =
+pub returns-clause-law : goal.returns-clause-law
+returns-clause-law c = λ o h.
     let r = c.args.places in
-    let p = c.args.p in
-    let n = c.args.n in
-    let is : model c.after-2.result ≡ after (Deletion p n) (after (Insertion p n) (model r)) = c.after-2.ensures ∙ ap (after (Deletion p n)) c.after.ensures in
-    record {
-      value = is;
-      law = λ o h. is ∙ inserted_and_deleted o p n (model r) (omega arith) r.window h;
-    }
+    let back = inserted_and_deleted o c.args.p c.args.n (model r) (omega arith) r.window h in
+    cc

@@ -1,12 +1,12 @@
-use Rattle.std.proofs.Common.{min, get_or, arith, length-set}
-use Rattle.places.proofs.Sixteen.{filled_more, within_from}
+use Rattle.std.proofs.Common.{min, get_or, rules}
+use Rattle.std.proofs.lemmas.List.FromFn.{fill_by_all}
+use Rattle.places.specs.Markers.{markers_within}
+use Rattle.places.proofs.Mapped.{mapped}
 use Rattle.places.proofs.markers.markers_within.Goals as goal
 
-pub loop-i-preserved : goal.loop-i-preserved
-loop-i-preserved c = (
-  simp length-set c.loop-i.invariant.0,
-  filled_more (λ i. min (get_or c.args.markers i 0) c.args.len) 0 c.loop-i.out c.loop-i.i _ c.loop-i.invariant.0 (omega arith) c.min.ensures c.loop-i.invariant.1,
-)
-
 pub returns : goal.returns
-returns c = within_from c.args.len c.args.markers c.loop-i.out c.loop-i.invariant.0 (λ k h. c.loop-i.invariant.1 k (omega arith))
+unfolding markers_within
+returns c =
+    let m = c.map.ensures.items in
+    let ms = c.args.markers in
+    fill_by_all (λ i. min (get_or ms i 0) c.args.len) c.map.result 16 0 m.long (λ k h. mapped _ _ (λ x. min x c.args.len) (λ x y q r. search rules) ms c.map.result 16 m k 0 0 h)

@@ -10,5 +10,5 @@ returns g c =
     let text = g.S.TextStore.text in
     let room = g.S.TextStore.room in
     let s = c.args.self.now in
-    let groups = c.close.ensures.view ∙ ap after_close (groups_seen text room s) in
-    record { view = listed_anew text room s _ groups refl refl refl refl refl; state = refl; made = refl }
+    let groups = c.close.ensures.view ∙ ap after_close (groups_seen s) in
+    record { view = listed_anew s _ groups refl refl refl refl refl; state = refl; made = refl }

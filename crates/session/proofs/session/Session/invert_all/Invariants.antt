@@ -8,8 +8,8 @@ use Rattle.session.proofs.session.Session.invert_all.Given as goal
 -- What is left to invert is admitted, and leads to the same end; the closed groups are as they were.
 abbrev pub invariant-loop-i : goal.invariant-loop-i
 invariant-loop-i g l =
-    (invert_all (drop l.i (group_at (view g.S.TextStore.text g.S.TextStore.room l.initial.self).groups l.group)) (view g.S.TextStore.text g.S.TextStore.room l.self) ≡ invert_all (group_at (view g.S.TextStore.text g.S.TextStore.room l.initial.self).groups l.group) (view g.S.TextStore.text g.S.TextStore.room l.initial.self))
-    × Admits (drop l.i (group_at (view g.S.TextStore.text g.S.TextStore.room l.initial.self).groups l.group)) (view g.S.TextStore.text g.S.TextStore.room l.self)
-    × ((view g.S.TextStore.text g.S.TextStore.room l.self).groups.closed ≡ (view g.S.TextStore.text g.S.TextStore.room l.initial.self).groups.closed)
+    (invert_all (drop l.i (group_at (view l.initial.self).groups l.group)) (view l.self) ≡ invert_all (group_at (view l.initial.self).groups l.group) (view l.initial.self))
+    × Admits (drop l.i (group_at (view l.initial.self).groups l.group)) (view l.self)
+    × ((view l.self).groups.closed ≡ (view l.initial.self).groups.closed)
     × (l.self.state ≡ l.initial.self.state)
     × (l.self.made ≡ l.initial.self.made)

@@ -5,4 +5,4 @@ use Rattle.session.proofs.session.Session.over.Goals as goal
 
 pub returns : goal.returns
 returns g c =
-    made_anew g.S.TextStore.text g.S.TextStore.room _ (c.new-places.ensures ∙ ap fresh c.len.ensures) c.requires.list.groups refl c.requires.stack.0 c.new.ensures
+    made_anew _ (c.new-places.ensures ∙ ap fresh c.len.ensures) c.requires.list.groups refl c.requires.stack.0 c.new.ensures

@@ -1,7 +1,6 @@
 use Rattle.std.proofs.Common.{arith, rules}
 use Rattle.undo_list.proofs.Lists.{closed_count}
-use Rattle.undo_list.proofs.Offsets.{placed_past, placed_trimmed}
-use Rattle.undo_list.proofs.Trimmed.{entries_gone, ends_past, sound_fewer, fewer_groups}
+use Rattle.undo_list.proofs.Trimmed.{entries_gone, ends_past, offsets_past, sound_fewer, placed_fewer, fewer_groups}
 use Rattle.undo_list.proofs.list.UndoList.drop_groups.Goals as goal
 
 pub start_of-entries-requires : goal.start_of-entries-requires
@@ -11,29 +10,27 @@ pub kept_before-bytes-requires : goal.kept_before-bytes-requires
 kept_before-bytes-requires c = entries_gone c.args.self.now c.args.k _ c.requires c.start_of-entries.ensures
 
 pub drop_held-requires : goal.drop_held-requires
-drop_held-requires c = record { entries = entries_gone c.args.self.now c.args.k _ c.requires c.start_of-entries.ensures; bytes = c.kept_before-bytes.ensures.few }
-
-pub drop_numbers-requires : goal.drop_numbers-requires
-drop_numbers-requires c =
+drop_held-requires c =
     let l = c.args.self.now in
     record {
-      few = omega (arith, entries_gone l c.args.k _ c.requires c.start_of-entries.ensures, l.offset_each);
-      past = placed_past _ _ l.placed c.start_of-entries.result _ c.kept_before-bytes.ensures.value;
+      entries = entries_gone l c.args.k _ c.requires c.start_of-entries.ensures;
+      bytes = c.kept_before-bytes.ensures.few;
+      past = offsets_past l c.args.k _ c.requires c.start_of-entries.ensures _ c.kept_before-bytes.ensures.value;
     }
 
-pub drop_numbers-requires-2 : goal.drop_numbers-requires-2
-drop_numbers-requires-2 c =
+pub drop_ends-requires : goal.drop_ends-requires
+drop_ends-requires c =
     let l = c.args.self.now in
     record { few = omega (arith, closed_count l, c.requires); past = ends_past l c.args.k _ c.requires c.start_of-entries.ensures }
 
 pub invariant_of-self : goal.invariant_of-self
 invariant_of-self c =
     let l = c.args.self.now in
-    let s = sound_fewer l c.args.k _ c.requires c.start_of-entries.ensures _ c.kept_before-bytes.ensures.value _ _ _ c.drop_held.ensures.entries c.drop_held.ensures.kept c.drop_numbers-2.ensures.items in
-    let p = placed_trimmed _ _ l.placed c.start_of-entries.result _ c.kept_before-bytes.ensures.value _ _ c.drop_held.ensures.entries c.drop_numbers.ensures.items in
+    let s = sound_fewer l c.args.k _ c.requires c.start_of-entries.ensures _ c.kept_before-bytes.ensures.value _ _ _ c.drop_held.ensures.entries c.drop_held.ensures.kept c.drop_ends.ensures.items in
+    let p = placed_fewer l c.args.k _ c.requires c.start_of-entries.ensures _ c.kept_before-bytes.ensures.value _ c.drop_held.ensures.entries in
     search rules
 
 pub returns : goal.returns
 returns c =
-    let f = fewer_groups c.args.self.now c.args.k _ c.requires c.start_of-entries.ensures _ c.kept_before-bytes.ensures.value _ c.drop_held.ensures.entries c.drop_held.ensures.kept c.drop_numbers-2.ensures.items in
+    let f = fewer_groups c.args.self.now c.args.k _ c.requires c.start_of-entries.ensures _ c.kept_before-bytes.ensures.value _ c.drop_held.ensures.entries c.drop_held.ensures.kept c.drop_ends.ensures.items in
     record { view = f.view; opened = f.opened; groups = f.groups; entries = f.entries; bytes = f.bytes }

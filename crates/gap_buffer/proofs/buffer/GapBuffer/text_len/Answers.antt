@@ -1,6 +1,0 @@
-use Rattle.std.proofs.Common.{rules}
-use Rattle.gap_buffer.specs.GapLength.{length_gapped}
-use Rattle.gap_buffer.proofs.buffer.GapBuffer.text_len.Goals as goal
-
-pub returns : goal.returns
-returns c = search (rules, length_gapped)

@@ -1,7 +1,0 @@
-use Rattle.std.proofs.Common.{rules}
-use Rattle.gap_buffer.specs.GapLength.{length_gapped}
-use Rattle.gap_buffer.proofs.Gapped.{cut}
-use Rattle.gap_buffer.proofs.buffer.GapBuffer.widen.Goals as goal
-
-pub returns : goal.returns
-returns c = search (rules, cut, length_gapped)

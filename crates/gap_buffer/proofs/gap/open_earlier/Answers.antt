@@ -1,6 +1,0 @@
-use Rattle.std.proofs.Common.{rules}
-use Rattle.gap_buffer.proofs.Gapped.{moved_left}
-use Rattle.gap_buffer.proofs.gap.open_earlier.Goals as goal
-
-pub returns : goal.returns
-returns c = search (rules, moved_left)

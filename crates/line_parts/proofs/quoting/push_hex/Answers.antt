@@ -1,7 +1,0 @@
-use Rattle.std.proofs.Common.{string_bytes, codes, rules}
-use Rattle.line_parts.specs.Quotes.{hex}
-use Rattle.line_parts.proofs.Quoted.{three_pushed}
-use Rattle.line_parts.proofs.quoting.push_hex.Goals as goal
-
-pub returns : goal.returns
-returns c = three_pushed (string_bytes c.args.text.now) (string_bytes c.push_str.new.self) (string_bytes c.push.new.self) (string_bytes c.push-2.new.self) (codes "\\x") (hex c.args.high) (hex c.args.low) (search rules) (search rules) (search rules)

@@ -1,6 +1,0 @@
-use Rattle.std.proofs.Common.{◌≡◌, ◌++◌, take, string_bytes, codes}
-use Rattle.line_parts.specs.Quotes.{escaped}
-use Rattle.line_parts.proofs.quoting.quote.Given as goal
-
-abbrev pub invariant-loop-b : goal.invariant-loop-b
-invariant-loop-b l = string_bytes l.text ≡ codes "\"" ++ escaped (take l.b-index l.bytes)

@@ -1,7 +1,0 @@
-use Rattle.std.proofs.Common.{◌≡◌, drop}
-use Rattle.places.specs.DryRun.{edit_check, put_to_all}
-use Rattle.places.specs.Model.{model}
-use Rattle.places.proofs.record.Places.check_each.Given as goal
-
-abbrev pub invariant-loop-edit : goal.invariant-loop-edit
-invariant-loop-edit l = put_to_all (edit_check l.check) (model l.copy) (drop l.edit-index l.edits) ≡ put_to_all (edit_check l.check) (model l.initial.copy) l.edits

@@ -88,6 +88,7 @@ enum Flag {
 }
 
 impl Flag {
+    // An Option and no TryFrom: a word that names no option is no error.
     fn named(word: &str) -> Option<Flag> {
         match word {
             "--store" => Some(Flag::Store),

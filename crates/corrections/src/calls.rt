@@ -1,7 +1,8 @@
 // The calls that a list of corrections can hold, and their answers. Both are printed in their plain
 // form: decimal numbers, and bytes in double quotes.
-ghost use Rattle.std.specs.Prelude.{Some};
+ghost use Rattle.std.specs.Prelude.{◌≡◌, Some};
 ghost use Rattle.corrections.specs.Forms.{answer_form, call_form};
+ghost use Rattle.corrections.specs.Replies.{done, outcome, reply_of};
 
 use line_parts::Quoted;
 use std::fmt;
@@ -60,5 +61,14 @@ impl fmt::Display for Answer {
             Answer::Bytes(bytes) => write!(f, "bytes {}", Quoted(bytes)),
             Answer::Refused(fault) => write!(f, "refused {fault}"),
         }
+    }
+}
+
+// The answer of an edit.
+impl From<Result<(), Fault<Refusal>>> for Answer {
+    ghost from_gives = { λ r a. reply_of a ≡ outcome r done };
+
+    fn from(outcome: Result<(), Fault<Refusal>>) -> Answer {
+        outcome.map_or_else(Answer::Refused, |()| Answer::Done)
     }
 }

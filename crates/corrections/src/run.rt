@@ -1,17 +1,16 @@
 // Doing a list of calls on a store, one after the other.
 ghost use Rattle.std.specs.Prelude.{◌≡◌, map, IfOk, OnErr};
-ghost use Rattle.corrections.specs.Replies.{call_reply, call_text, copy_reply, done, outcome, reply_of};
+ghost use Rattle.corrections.specs.Replies.{call_reply, call_text, copy_reply, reply_of};
 ghost use Rattle.corrections.specs.Runs.{Answered, Stopped};
 
 use crate::calls::{Answer, Call};
 use std::alloc::{AllocError, Global};
 use store::checks::MAX_CAPACITY;
-use store::faults::{Fault, Refusal};
 use store::text_store::TextStore;
 
 // Does the calls in their order, and answers each. Where memory is wanting it stops between two
 // calls, and those before have been done.
-// Not one with the loop over a session: a trait for both, with its laws and two impls, outweighs it.
+// Not one with the loop over a session: a trait or closure for both, with its contract, outweighs it.
 #[tactic(auto, using(crate::proofs::Runs::text_none, crate::proofs::Runs::replies_none))]
 pub(crate) fn perform_all<S: TextStore>(
     heap: Global,
@@ -37,8 +36,8 @@ fn perform<S: TextStore>(heap: Global, store: &mut S, call: &Call) -> Result<Ans
     ensures room { S.room store.new ≡ S.room store.old }
 {
     match call {
-        Call::Insert { place, bytes } => Ok(edit_answer(store.insert(*place, bytes))),
-        Call::Delete { place, count } => Ok(edit_answer(store.delete(*place, *count))),
+        Call::Insert { place, bytes } => Ok(Answer::from(store.insert(*place, bytes))),
+        Call::Delete { place, count } => Ok(Answer::from(store.delete(*place, *count))),
         Call::Length => Ok(Answer::Number(store.len())),
         Call::Capacity => Ok(Answer::Number(store.capacity())),
         Call::ByteAt { place } => Ok(Answer::Byte(store.byte_at(*place))),
@@ -46,14 +45,8 @@ fn perform<S: TextStore>(heap: Global, store: &mut S, call: &Call) -> Result<Ans
     }
 }
 
-fn edit_answer(res: Result<(), Fault<Refusal>>) -> Answer
-    ensures { reply_of result ≡ outcome res done }
-{
-    res.map_or_else(Answer::Refused, |()| Answer::Done)
-}
-
 // Copies n bytes from p on. No accepted copy has more than 32,768 bytes, so an area of that many
-// is never too short.
+// is never too short. Not one with a session's copy: the answers are of two types.
 fn copy_out<S: TextStore>(heap: Global, store: &S, p: usize, n: usize) -> Result<Answer, AllocError>
     ensures { IfOk result (λ a. reply_of a ≡ copy_reply (S.text store.now) p n) }
 {

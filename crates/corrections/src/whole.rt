@@ -39,15 +39,8 @@ fn append_in_parts<S: TextStore>(store: &mut S, bytes: &[u8])
 pub(crate) fn contents<S: TextStore>(heap: Global, store: &S) -> Result<Vec<u8>, AllocError>
     ensures { IfOk result (λ v. v.items ≡ S.text store.now) }
 {
-    first_bytes(heap, store, store.len())
-}
-
-fn first_bytes<S: TextStore>(heap: Global, store: &S, n: usize) -> Result<Vec<u8>, AllocError>
-    requires { n ≤ length (S.text store.now) }
-    ensures front { IfOk result (λ v. v.items ≡ take n (S.text store.now)) }
-    ensures whole { n ≡ length (S.text store.now) → IfOk result (λ v. v.items ≡ S.text store.now) }
-{
-    let mut area = vec![in heap; 0; n]?;
-    let _ = store.copy(0, n, &mut area);
+    let len = store.len();
+    let mut area = vec![in heap; 0; len]?;
+    let _ = store.copy(0, len, &mut area);
     Ok(area)
 }

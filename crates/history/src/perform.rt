@@ -51,7 +51,7 @@ fn window_of<S: TextStore>(session: &Session<S>) -> Answer
 }
 
 // Copies n bytes from p on. No accepted copy has more than 32,768 bytes, so an area of that many is
-// never too short.
+// never too short. Not one with a store's copy: the answers are of two types.
 fn copy_out<S: TextStore>(
     heap: Global,
     session: &Session<S>,

@@ -15,7 +15,7 @@ use store::text_store::TextStore;
 
 // Does the calls in their order, and answers each. Where memory is wanting it stops between two calls,
 // and those before have been done.
-// Not one with the loop over a store: a trait for both, with its laws and two impls, outweighs it.
+// Not one with the loop over a store: a trait or closure for both, with its contract, outweighs it.
 pub fn perform_all<S: TextStore>(
     heap: Global,
     session: &mut Session<S>,
@@ -53,6 +53,7 @@ fn run_on<S: TextStore>(
 ) -> Result<Finished<S>, Unfinished<S>>
     ensures { RanFrom (view session) calls.now result }
 {
+    // a match and no map_err: both arms take the session
     match perform_all(heap, &mut session, calls) {
         Ok(answers) => Ok(Finished { session, answers }),
         Err(_) => Err(Unfinished::Interrupted { session }),

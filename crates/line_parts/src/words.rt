@@ -18,6 +18,7 @@ pub fn past_blanks(line: &[u8]) -> &[u8]
     line.split_at(blanks_before(line)).1
 }
 
+// Two counts, each named for what it counts: one over a test would be take_while itself.
 fn blanks_before(line: &[u8]) -> usize
     ensures count { result ≡ prefix_len (λ b. is_blank b) line.now }
     ensures within { result ≤ length line.now }

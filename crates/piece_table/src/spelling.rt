@@ -34,7 +34,8 @@ impl Spelling<'_> {
     }
 
     // Writes n bytes of the text from p on into the front of the area; its rest stays. One pass
-    // over the pieces: those before p are stepped over, each other gives what is wanted of it.
+    // over the pieces: those before p are stepped over, each other gives what is wanted of it. What is
+    // skipped and what is done follow the pieces' own lengths, which no adapter of a loop does.
     #[tactic(auto, using(crate::proofs::Inside::inside_at))]
     pub(crate) fn copy_out(&self, p: usize, n: usize, area: &mut [u8])
         requires place { p + n ≤ length self.now }

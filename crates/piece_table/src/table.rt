@@ -12,7 +12,7 @@ mod text_store;
 
 // The text, of `size` bytes, is what the pieces of the live half spell. New bytes go behind those of
 // that half, so no piece is ever written over. A half takes up to `room` bytes, and both are reserved
-// at the making; a vector's capacity may be larger.
+// at the making; a vector's capacity may be larger. The size is held, so that it takes no pass to know.
 #[derive(Drop)]
 pub struct PieceTable {
     live: Vec<u8>,

@@ -10,6 +10,7 @@ use crate::marker::note_one;
 use crate::markers::{markers_after, markers_put_back};
 use crate::notes::Notes;
 use crate::record::Places;
+use store::checks::has_room;
 
 impl Places {
     // Whether the record can be carried through the edit.
@@ -17,7 +18,8 @@ impl Places {
         ensures { result ≡ fits edit (model self) }
     {
         match edit {
-            Edit::Insertion { place, count } => place <= self.len && count <= usize::MAX - self.len,
+            Edit::Insertion { place, count } => place <= self.len
+                && has_room(self.len, usize::MAX, count),
             Edit::Deletion { .. } => {
                 self.in_window(edit) && !self.spans.any_meets(Origin::Call, edit)
             }

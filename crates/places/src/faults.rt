@@ -7,7 +7,8 @@ use std::fmt;
 use store::faults::Refusal as StoreRefusal;
 pub use store::faults::Refuses;
 
-// The checks of a store and of the session over it, in the order in which they run.
+// The checks of a store and of the session over it, in the order in which they run. A store's four stand
+// here again: its own type keeps a store from answering with a check that it does not make.
 #[derive(Clone, Copy, PartialEq, Eq, Debug)]
 pub enum Refusal {
     // a call that the session's state does not admit

@@ -45,11 +45,7 @@ pub(crate) fn marker_after(edit: Edit, number: usize, m: usize) -> usize
 pub(crate) fn note_one(p: usize, n: usize, m: usize) -> Option<usize>
     ensures { result ≡ noted p n m }
 {
-    if p <= m && m - p <= n {
-        Some(m - p)
-    } else {
-        None
-    }
+    m.checked_sub(p).filter(|distance| *distance <= n)
 }
 
 // The marker of this number, at m just before: where it was noted and stands at p, it goes to its

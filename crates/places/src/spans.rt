@@ -1,6 +1,7 @@
 // The spans of a record, in the order in which they were added.
 ghost use Rattle.std.specs.Prelude.{◌≤◌};
 
+use crate::calls::MAX_SPANS;
 use crate::edit::{Edit, Origin};
 use crate::record::Span;
 
@@ -10,7 +11,7 @@ use crate::record::Span;
 #[derive(Clone, Copy)]
 pub struct Spans {
     // the spans are the first `count` of these
-    slots: [Span; 8],
+    slots: [Span; MAX_SPANS],
     count: usize,
     ghost few: { count ≤ 8 },
 }
@@ -26,7 +27,7 @@ impl Spans {
         ensures { spans_of result ≡ [] }
     {
         Spans {
-            slots: [Span { start: 0, end: 0 }; 8],
+            slots: [Span { start: 0, end: 0 }; MAX_SPANS],
             count: 0,
         }
     }

@@ -26,7 +26,7 @@ pub struct Session<S: TextStore> {
     state: State,
     // in a chain: the groups that its undos made and no redo took back; its memory outlives the state
     made: Vec<usize>,
-    // in a change: the markers, spans and window of its opening; the table of states needs no such record
+    // in a change: the markers, spans and window of its opening; beside the state, which is compared
     noted: Places,
     // the inverse edits of a group, while they are put to the checks
     edits: Vec<Edit>,

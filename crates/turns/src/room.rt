@@ -9,7 +9,8 @@ use places::edit::Edit;
 use places::faults::{Fault, Refusal, Refuses};
 use store::checks::has_room;
 
-// Capacity: n bytes more do not make the text longer than it.
+// Capacity: n bytes more do not make the text longer than it. Length and capacity are two numbers, as a
+// store answers them: a type for the two would be built at each call only to be taken apart in it.
 pub fn check_room(len: usize, room: usize, n: usize, p: usize) -> Result<(), Fault>
     ensures value { result ≡ answer (room_check len room n) p }
     ensures passed { OnOk result ((room_check len room n ≡ None) × (len + n ≤ room)) }

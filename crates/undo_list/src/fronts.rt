@@ -47,7 +47,7 @@ pub(crate) fn drop_held(stored: &mut Vec<Stored>, kept: &mut Vec<u8>, gone: usiz
 }
 
 // Takes what is gone from each number.
-// Not one with `lower_offsets`: over both it would need a closure that lends the number in an element.
+// Not one with `lower_offsets`: a closure that changes an element, with its contract, outweighs two lines.
 #[tactic(auto, using(crate::proofs::Dropped::lowered_more))]
 fn lower(numbers: &mut [usize], gone: usize)
     requires { (i d : ℕ) → i < length numbers.old → gone ≤ slice_index_or numbers.old i d }

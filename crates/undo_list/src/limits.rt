@@ -5,7 +5,7 @@ ghost use Rattle.store.specs.Edits.{answer};
 ghost use Rattle.undo_list.specs.Limits.{limit_check, count_check};
 
 use places::faults::{Fault, Refusal, Refuses};
-use store::checks::bad_count;
+use store::checks::{bad_count, has_room};
 
 pub const MAX_ENTRIES: usize = 512;
 
@@ -23,16 +23,13 @@ pub(crate) struct Counts {
 
 // Undo list: with so much more than is held, no limit is passed.
 pub(crate) fn check_limits(held: Counts, more: Counts, place: usize) -> Result<(), Fault>
-    requires entries { held.entries ≤ 512 }
-    requires bytes { held.bytes ≤ 16384 }
-    requires groups { held.groups ≤ 256 }
     ensures value { result ≡ answer (limit_check (held.entries + more.entries) (held.bytes + more.bytes) (held.groups + more.groups)) place }
     ensures passed { OnOk result ((limit_check (held.entries + more.entries) (held.bytes + more.bytes) (held.groups + more.groups) ≡ None) × (held.entries + more.entries ≤ 512) × (held.bytes + more.bytes ≤ 16384) × (held.groups + more.groups ≤ 256)) }
 {
-    if more.entries > MAX_ENTRIES - held.entries
-        || more.bytes > MAX_BYTES - held.bytes
-        || more.groups > MAX_GROUPS - held.groups
-    {
+    let entries = has_room(held.entries, MAX_ENTRIES, more.entries);
+    let bytes = has_room(held.bytes, MAX_BYTES, more.bytes);
+    let groups = has_room(held.groups, MAX_GROUPS, more.groups);
+    if !(entries && bytes && groups) {
         return Err(Refusal::UndoList.at(place));
     }
     Ok(())

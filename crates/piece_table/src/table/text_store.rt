@@ -25,11 +25,7 @@ impl TextStore for PieceTable {
     }
 
     fn byte_at(&self, p: usize) -> Option<u8> {
-        if p < self.len() {
-            Some(self.text().byte(p))
-        } else {
-            None
-        }
+        (p < self.len()).then(|| self.text().byte(p))
     }
 
     fn copy(&self, p: usize, n: usize, area: &mut [u8]) -> Result<(), Fault<Refusal>> {

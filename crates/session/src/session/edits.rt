@@ -20,6 +20,7 @@ use places::edit::Edit;
 use places::faults::Fault;
 use places::notes::Notes;
 use places::record::Places;
+use store::checks::MAX_COUNT;
 use store::text_store::TextStore;
 
 // Markers, spans and window behind an insertion of n bytes at p.
@@ -54,6 +55,7 @@ impl<S: TextStore> Session<S> {
     }
 
     // Puts the bytes in at p: state, count, place, window, spans, capacity, undo list.
+    #[tactic(auto, unfolding(crate::specs::View::view, crate::specs::Calls::insert_check, crate::specs::Calls::insert_world))]
     pub fn insert(&mut self, p: usize, bytes: &[u8]) -> Result<(), Fault>
         ensures value { result ≡ answer (insert_check (view self.old) p (length bytes.now)) p }
         ensures world { view self.new ≡ insert_world (view self.old) p bytes.now }
@@ -75,7 +77,8 @@ impl<S: TextStore> Session<S> {
         ensures made { self.new.made ≡ self.old.made }
     {
         let (notes, after) = through_deletion(self.places, p, n);
-        let mut area = [0u8; 4096];
+        // as long as the longest deletion, by value: no call but the making takes memory
+        let mut area = [0u8; MAX_COUNT];
         let _ = self.store.copy(p, n, &mut area);
         let _ = self.list.record_deletion(p, &area[0..n], notes);
         let _ = self.store.delete(p, n);
@@ -83,6 +86,7 @@ impl<S: TextStore> Session<S> {
     }
 
     // Takes n bytes from p on out: state, count, place, window, spans, undo list.
+    #[tactic(auto, unfolding(crate::specs::View::view, crate::specs::Calls::delete_check, crate::specs::Calls::delete_world))]
     pub fn delete(&mut self, p: usize, n: usize) -> Result<(), Fault>
         ensures value { result ≡ answer (delete_check (view self.old) p n) p }
         ensures world { view self.new ≡ delete_world (view self.old) p n }

@@ -33,12 +33,14 @@ impl<S: TextStore> Session<S> {
         ensures made { IfOk result (λ s. view s ≡ new_world (S.TextStore.text store) (S.TextStore.room store)) }
         ensures back { IfErr result (λ back. back ≡ store) }
     {
+        // a match and no map_err: both arms take the store
         match reserve(heap) {
             Ok((list, made, edits)) => Ok(Session::over(store, list, made, edits)),
             Err(_) => Err(store),
         }
     }
 
+    #[tactic(auto, unfolding(crate::specs::View::view, crate::specs::World::new_world))]
     fn over(store: S, list: UndoList, made: Vec<usize>, edits: Vec<Edit>) -> Session<S>
         requires list { Empty (list-view list) }
         requires stack { (made.items ≡ []) × (256 ≤ vec_capacity made) }
@@ -58,6 +60,7 @@ impl<S: TextStore> Session<S> {
     }
 
     // The store, with the text that the session had. All else is let go.
+    #[tactic(auto, unfolding(crate::specs::View::view))]
     pub fn into_store(self) -> S
         ensures text { S.TextStore.text result ≡ (view self).text }
         ensures room { S.TextStore.room result ≡ (view self).room }

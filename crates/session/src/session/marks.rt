@@ -1,4 +1,5 @@
-// Markers, spans and window.
+// Markers, spans and window. The five have one shape: over one function, a closure for what each does to
+// the record would bring its own contract into every proof.
 ghost use Rattle.std.specs.Prelude.{◌≡◌};
 ghost use Rattle.store.specs.Edits.{answer};
 ghost use Rattle.session.specs.Calls.{marker_set_check, set_world, protect_call_check, protect_world, unprotect_call_check, unprotect_world, narrow_check, narrow_world, widen_check, widen_world};

@@ -61,7 +61,8 @@ impl<S: TextStore> Session<S> {
         self.places.markers
     }
 
-    // How many bytes the window leaves out before and behind.
+    // How many bytes the window leaves out before and behind: a pair, as the rules answer it, and no type
+    // of its own, since each count is set, carried and compared alone.
     #[tactic(auto, unfolding(crate::specs::View::view))]
     pub fn window(&self) -> (usize, usize)
         ensures before { result.0 ≡ (view self.now).places.before }

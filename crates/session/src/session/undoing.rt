@@ -40,6 +40,7 @@ impl<S: TextStore> Session<S> {
     }
 
     // Closes the open group, if there is one.
+    #[tactic(auto, unfolding(crate::specs::View::view, crate::specs::Undo::with_closed))]
     pub(super) fn close_group(&mut self)
         ensures view { view self.new ≡ with_closed (view self.old) }
         ensures state { self.new.state ≡ self.old.state }

@@ -12,17 +12,25 @@ use places::faults::{Fault, Refusal, Refuses};
 use places::notes::Notes;
 
 impl UndoList {
+    // What is held, with the groups that a check counts.
+    fn held(&self, groups: usize) -> Counts
+        ensures entries { result.entries ≡ entries_in (view self.now) }
+        ensures bytes { result.bytes ≡ bytes_in (view self.now) }
+        ensures groups { result.groups ≡ groups }
+    {
+        Counts {
+            entries: self.entries(),
+            bytes: self.bytes(),
+            groups,
+        }
+    }
+
     // Undo list: one more entry, which keeps so many bytes, passes no limit.
     pub fn check_entry(&self, bytes: usize, place: usize) -> Result<(), Fault>
         ensures value { result ≡ answer (entry_check (view self.now) bytes) place }
         ensures passed { OnOk result ((entry_check (view self.now) bytes ≡ None) × (entries_in (view self.now) + 1 ≤ 512) × (bytes_in (view self.now) + bytes ≤ 16384) × (length (view self.now).closed + 1 ≤ 256)) }
     {
-        // Not a method for this and `check_group`: it would be told which groups to count.
-        let held = Counts {
-            entries: self.entries(),
-            bytes: self.bytes(),
-            groups: self.closed_groups(),
-        };
+        let held = self.held(self.closed_groups());
         let more = Counts {
             entries: 1,
             bytes,
@@ -76,11 +84,7 @@ impl UndoList {
         ensures value { result ≡ answer (group_check (view self.now) n k) place }
         ensures passed { OnOk result ((group_check (view self.now) n k ≡ None) × (entries_in (view self.now) + n ≤ 512) × (bytes_in (view self.now) + k ≤ 16384) × (groups_in (view self.now) + 1 ≤ 256)) }
     {
-        let held = Counts {
-            entries: self.entries(),
-            bytes: self.bytes(),
-            groups: self.groups(),
-        };
+        let held = self.held(self.groups());
         let more = Counts {
             entries: n,
             bytes: k,

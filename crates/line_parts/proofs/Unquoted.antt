@@ -1,5 +1,5 @@
 -- Quoting and unquoting, one byte more.
-use Rattle.std.proofs.Common.{◌≡◌, ℕ, ◌+◌, ◌<◌, ◌≤◌, List, [], ◌∷◌, ◌++◌, length, get_or, take, drop, codes, sym, refl, ap, ◌∙◌, arith}
+use Rattle.std.proofs.Common.{◌≡◌, ℕ, ◌+◌, ◌<◌, ◌≤◌, List, [], ◌∷◌, ◌++◌, length, get_or, take, drop, codes, sym, refl, ap, ◌∙◌, arith, rules}
 use Rattle.std.proofs.lemmas.List.{append_assoc, append-nil, take_more, drop_more, take_all, drop_all}
 use Rattle.line_parts.specs.declared.misquoted.InQuotes.TheVariants.{PlainByte, ClosingQuote}
 use Rattle.line_parts.specs.declared.quoting.Quoting.{Quoting}
@@ -8,16 +8,26 @@ use Rattle.line_parts.specs.declared.quoting.Turn.TheVariants.{Goes, Gives, Clos
 use Rattle.line_parts.specs.Quotes.{escape, escaped, quoted}
 use Rattle.line_parts.specs.Unquotes.{Unquoted, closed, malformed, behind, by_turn, turn_at, unquoted}
 
-escaped_push : (bs : List ℕ) (b : ℕ) → escaped (bs ++ (b ∷ [])) ≡ escaped bs ++ escape b
-escaped_push [] b = append-nil (escape b)
-escaped_push (a ∷ bs) b = ap (λ x. escape a ++ x) (escaped_push bs b) ∙ sym (append_assoc (escape a) (escaped bs) (escape b))
+escaped-append : (bs cs : List ℕ) → escaped (bs ++ cs) ≡ escaped bs ++ escaped cs
+escaped-append [] cs = refl
+escaped-append (b ∷ bs) cs = ap (λ x. escape b ++ x) (escaped-append bs cs) ∙ sym (append_assoc (escape b) (escaped bs) (escaped cs))
 
-pub quoted_more : (bs : List ℕ) (i : ℕ) → i < length bs → (codes "\"" ++ escaped (take i bs)) ++ escape (get_or bs i 0) ≡ codes "\"" ++ escaped (take (i + 1) bs)
-quoted_more bs i lt = ap (λ x. codes "\"" ++ x) (sym (escaped_push (take i bs) (get_or bs i 0)) ∙ ap escaped (sym (take_more bs i 0 lt)))
+pub escaped_more : (bs : List ℕ) (i : ℕ) → i < length bs → escaped (take i bs) ++ escape (get_or bs i 0) ≡ escaped (take (i + 1) bs)
+escaped_more bs i lt = ap (λ x. escaped (take i bs) ++ x) (sym (append-nil (escape (get_or bs i 0)))) ∙ sym (escaped-append (take i bs) (get_or bs i 0 ∷ [])) ∙ ap escaped (sym (take_more bs i 0 lt))
 
-pub quoted_whole : (bs : List ℕ) (i : ℕ) → length bs ≤ i → (codes "\"" ++ escaped (take i bs)) ++ codes "\"" ≡ quoted bs
+-- What was written of a text in quotes, and what is still to come.
+pub quoted_first : (bs rest : List ℕ) → rest ≡ bs → codes "\"" ++ (escaped rest ++ codes "\"") ≡ quoted bs
 unfolding quoted
-quoted_whole bs i all = ap (λ x. codes "\"" ++ (escaped x ++ codes "\"")) (take_all i bs all)
+quoted_first bs rest all = ap quoted all
+
+pub quoted_more : (written part rest rest' whole : List ℕ) → rest ≡ part ++ rest' → written ++ (escaped rest ++ codes "\"") ≡ whole → (written ++ escaped part) ++ (escaped rest' ++ codes "\"") ≡ whole
+quoted_more written part rest rest' whole split so_far =
+    let parts = ap escaped split ∙ escaped-append part rest' in
+    append_assoc written (escaped part) (escaped rest' ++ codes "\"") ∙ ap (λ x. written ++ x) (sym (append_assoc (escaped part) (escaped rest') (codes "\""))) ∙ ap (λ x. written ++ (x ++ codes "\"")) (sym parts) ∙ so_far
+
+pub quoted_last : (written rest whole : List ℕ) → length rest ≡ 0 → written ++ (escaped rest ++ codes "\"") ≡ whole → written ++ codes "\"" ≡ whole
+quoted_last written [] whole none so_far = so_far
+quoted_last written (b ∷ rest) whole none so_far = search rules
 
 pub behind-behind : (bs cs : List ℕ) (n m : ℕ) (u : Unquoted) → behind bs n (behind cs m u) ≡ behind (bs ++ cs) (n + m) u
 behind-behind bs cs n m (closed ds k) = let e = append_assoc bs cs ds in let f : n + (m + k) ≡ (n + m) + k = omega arith in cc

@@ -1,3 +1,4 @@
+pub mod AsciiTexts
 pub mod Blanks
 pub mod Numbers
 pub mod Quotes

@@ -1,6 +1,7 @@
 // The parts of a line of text: words between blanks, decimal numbers, and bytes in double quotes.
 #![tactic(auto)]
 
+mod ascii_text;
 mod misquoted;
 mod quoting;
 mod showing;

@@ -84,18 +84,17 @@ module _ (u : ℕ) (ps : List Piece) (all : inside u ps ≡ true) where
   inside-spliced a new b fits t1 t2 =
       inside_join u _ _ (inside_join u _ _ (inside_join u _ _ (inside_join u _ _ (inside_take u a.piece ps all) (kept-inside u (front_piece ps a) (front_inside a t1))) (kept-inside u new fits)) (kept-inside u (back_piece ps b) (back_inside b t2))) (inside-drop u (past b) ps all)
 
--- The lists that a replacing writes, one after the other.
-spliced_is : (ps : List Piece) (a : Spot) (new : Piece) (b : Spot) (start : ℕ) (f g : Piece) (x0 x1 x2 x3 x4 x5 : List Piece) → start ≡ past b → f ≡ front_piece ps a → g ≡ back_piece ps b → x0 ≡ [] → x1 ≡ x0 ++ take a.piece ps → x2 ≡ x1 ++ kept f → x3 ≡ x2 ++ kept new → x4 ≡ x3 ++ kept g → x5 ≡ x4 ++ take (length ps - start) (drop start ps) → x5 ≡ spliced ps a new b
+-- The lists that a splice writes, one after the other.
+pub spliced_is : (ps : List Piece) (a : Spot) (new : Piece) (b : Spot) (start : ℕ) (f g : Piece) (x0 x1 x2 x3 x4 x5 : List Piece) → start ≡ past b → f ≡ front_piece ps a → g ≡ back_piece ps b → x0 ≡ [] → x1 ≡ x0 ++ take a.piece ps → x2 ≡ x1 ++ kept f → x3 ≡ x2 ++ kept new → x4 ≡ x3 ++ kept g → x5 ≡ x4 ++ take (length ps - start) (drop start ps) → x5 ≡ spliced ps a new b
 unfolding spliced
 spliced_is ps a new b start f g x0 x1 x2 x3 x4 x5 h1 h2 h3 h4 h5 h6 h7 h8 h9 =
     let t = take_rest ps start in
     let n : [] ++ take a.piece ps ≡ take a.piece ps = refl in
     cc
 
--- What two walks and those lists do.
-pub replaced : (list : List Piece) (p n : ℕ) (new : Piece) (a b : Spot) (start : ℕ) (f g : Piece) (x0 x1 x2 x3 x4 x5 : List Piece) → Walked list 0 p a → Walked list a.piece (a.offset + n) b → start ≡ past b → f ≡ front_piece list a → g ≡ back_piece list b → x0 ≡ [] → x1 ≡ x0 ++ take a.piece list → x2 ≡ x1 ++ kept f → x3 ≡ x2 ++ kept new → x4 ≡ x3 ++ kept g → x5 ≡ x4 ++ take (length list - start) (drop start list) → Edited list p n new x5
-replaced list p n new a b start f g x0 x1 x2 x3 x4 x5 w1 w2 h1 h2 h3 h4 h5 h6 h7 h8 h9 =
-    let is = spliced_is list a new b start f g x0 x1 x2 x3 x4 x5 h1 h2 h3 h4 h5 h6 h7 h8 h9 in
+-- What two walks and a splice do.
+pub edited_by : (list qs : List Piece) (p n : ℕ) (new : Piece) (a b : Spot) → Walked list 0 p a → Walked list a.piece (a.offset + n) b → qs ≡ spliced list a new b → Edited list p n new qs
+edited_by list qs p n new a b w1 w2 is =
     let s1 : total (take a.piece list) + a.offset ≡ p = w1.sum ∙ omega arith in
     let s2 : total (take b.piece list) + b.offset ≡ p + n = w2.sum ∙ omega arith in
     record {

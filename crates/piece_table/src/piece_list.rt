@@ -3,7 +3,7 @@ ghost use Rattle.std.specs.Prelude.{◌≡◌, ◌+◌, ◌≤◌, nat_lt, true,
 ghost use Rattle.piece_table.specs.Pieces.{inside, max_pieces, total, Edited};
 
 use crate::pieces::{Piece, walk};
-use crate::splicing::{back_of, front_of, past_of, push_kept};
+use crate::splicing::splice;
 use std::alloc::{AllocError, Global};
 
 // The most pieces of a text.
@@ -69,12 +69,7 @@ impl PieceList {
         let list = self.list.as_slice();
         let a = walk(list, 0, p);
         let b = walk(list, a.piece, a.offset + n);
-        self.next.clear();
-        let _ = self.next.extend_from_slice(&list[..a.piece]);
-        push_kept(&mut self.next, front_of(list, a));
-        push_kept(&mut self.next, new);
-        push_kept(&mut self.next, back_of(list, b));
-        let _ = self.next.extend_from_slice(&list[past_of(b)..]);
+        splice(list, a, new, b, &mut self.next);
         std::mem::swap(&mut self.list, &mut self.next);
     }
 }

@@ -1,7 +1,8 @@
 -- A record that is carried through an edit stays within its length. Assumes nothing.
-use Rattle.std.proofs.Common.{◌≡◌, ℕ, zero, suc, ◌+◌, ◌-◌, ◌<◌, ◌≤◌, Bool, true, false, List, [], ◌∷◌, map, length, get_or, Some, None, Option, arith}
+use Rattle.std.proofs.Common.{◌≡◌, ℕ, zero, suc, ◌+◌, ◌-◌, ◌^◌, ◌<◌, ◌≤◌, Bool, true, false, List, [], ◌∷◌, ◌++◌, map, length, get_or, take, drop, set, sym, ap, ◌∙◌, subst, Some, None, Option, arith, length-take}
+use Rattle.std.proofs.lemmas.List.{take_more_set, map_more, get_or-take, get_or-drop, drop-set-lt, drop-drop}
 use Rattle.std.specs.List.{All}
-use Rattle.std.proofs.lemmas.List.Elements.{All-map}
+use Rattle.std.proofs.lemmas.List.Elements.{All-get_or, All-map}
 use Rattle.std.proofs.lemmas.Bool.{and_parts, not-true}
 use Rattle.std.proofs.lemmas.Bool.Decides.{nat_tests}
 use Rattle.places.specs.declared.edit.Edit.{Edit}
@@ -10,7 +11,7 @@ use Rattle.places.specs.declared.edit.Origin.TheVariants.{Call}
 use Rattle.places.specs.declared.record.Span.{Span}
 use Rattle.places.specs.Carry.{fits}
 use Rattle.places.specs.Checks.{in_window}
-use Rattle.places.specs.Edits.{len_after}
+use Rattle.places.specs.Edits.{growth, len_after}
 use Rattle.places.specs.Markers.{marker_after, put_back, markers_after, markers_put_back}
 use Rattle.places.specs.Model.{Model}
 use Rattle.places.specs.Near.{near}
@@ -67,3 +68,25 @@ pub marked_back : (p n : ℕ) (notes : List (Option ℕ)) (m : Model) (len : ℕ
 marked_back p n notes m len out is are fit close each k h =
     let w : p ≤ m.len = grind (arith, nat_tests) in
     rw (is, are, back_at p n notes m.markers k h) (one_back p n m.len k (get_or notes k None) (get_or m.markers k 0) w (close k h) (each k h))
+
+-- One span more that is carried, in its slot; the slots behind it are as they were.
+module _ (e : Edit) (was now : List Span) (count i : ℕ) (v d : Span) (long : length now ≡ length was) (there : i < count) (few : count ≤ length was) (behind : drop i now ≡ drop i was) where
+  pub still_there : get_or now i d ≡ get_or was i d
+  still_there =
+      let z : i + 0 ≡ i = omega arith in
+      sym (get_or-drop i now 0 d ∙ ap (λ k. get_or now k d) z) ∙ ap (λ l. get_or l 0 d) behind ∙ get_or-drop i was 0 d ∙ ap (λ k. get_or was k d) z
+
+  pub still_behind : drop (i + 1) (set now i v) ≡ drop (i + 1) was
+  still_behind = drop-set-lt (i + 1) now i v (omega arith) ∙ sym (drop-drop 1 i now) ∙ ap (drop 1) behind ∙ drop-drop 1 i was
+
+  pub carried_more : v ≡ span_after e (get_or now i d) → take i now ≡ map (span_after e) (take i (take count was)) → take (i + 1) (set now i v) ≡ map (span_after e) (take (i + 1) (take count was))
+  carried_more is front =
+      let at : get_or (take count was) i d ≡ get_or was i d = get_or-take count was i d there in
+      let l : i < length (take count was) = simp length-take (omega arith) in
+      let same : v ≡ span_after e (get_or (take count was) i d) = is ∙ ap (span_after e) (still_there ∙ sym at) in
+      take_more_set now i v (omega arith) ∙ ap (λ ys. ys ++ v ∷ []) front ∙ ap (λ y. map (span_after e) (take i (take count was)) ++ y ∷ []) same ∙ sym (map_more (span_after e) (take count was) i d l)
+
+  pub still_sound : All (λ span. (span.start ≤ span.end) × (span.end + growth e < 2 ^ 64)) (take count was) → ((get_or now i d).start ≤ (get_or now i d).end) × ((get_or now i d).end + growth e < 2 ^ 64)
+  still_sound each =
+      let at : get_or (take count was) i d ≡ get_or now i d = get_or-take count was i d there ∙ sym still_there in
+      subst (λ span. (span.start ≤ span.end) × (span.end + growth e < 2 ^ 64)) at (All-get_or (λ span. (span.start ≤ span.end) × (span.end + growth e < 2 ^ 64)) (take count was) i d (simp length-take (omega arith)) each)

@@ -1,6 +1,5 @@
 pub mod Back
 pub mod Carried
 pub mod Kept
-pub mod Mapped
 pub mod Run
 pub mod Sixteen

@@ -7,7 +7,7 @@ ghost use Rattle.places.specs.Model.{model};
 
 use crate::edit::{Edit, Origin};
 use crate::marker::note_one;
-use crate::markers::{markers_after, markers_put_back};
+use crate::markers::{markers_after, markers_put_back, of_each};
 use crate::notes::Notes;
 use crate::record::Places;
 use store::checks::has_room;
@@ -35,7 +35,7 @@ impl Places {
         }
         self.len = edit.len_after(self.len);
         self.markers = markers_after(edit, self.markers);
-        self.spans = self.spans.after(edit);
+        self.spans.carry(edit);
         self
     }
 
@@ -46,7 +46,7 @@ impl Places {
     {
         Notes {
             count: n,
-            distances: self.markers.map(|m| note_one(p, n, m)),
+            distances: of_each(self.markers, None, |_, m| note_one(p, n, m)),
         }
     }
 
@@ -64,7 +64,7 @@ impl Places {
         }
         self.len = edit.len_after(self.len);
         self.markers = markers_put_back(p, notes, self.markers);
-        self.spans = self.spans.after(edit);
+        self.spans.carry(edit);
         self
     }
 }

@@ -4,8 +4,8 @@ ghost use Rattle.places.specs.Refusals.{number, layer, lifted};
 ghost use Rattle.places.specs.Shown.{check_name};
 
 use std::fmt;
-use store::faults::Refusal as StoreRefusal;
 pub use store::faults::Refuses;
+use store::faults::{OverStore, Refusal as StoreRefusal};
 
 // The checks of a store and of the session over it, in the order in which they run. A store's four stand
 // here again: its own type keeps a store from answering with a check that it does not make.
@@ -82,6 +82,9 @@ impl From<StoreRefusal> for Refusal {
         }
     }
 }
+
+// So a store's fault is one of a session by `From`.
+impl OverStore for Refusal {}
 
 // The name of the check in the table of refusals.
 impl fmt::Display for Refusal {

@@ -50,10 +50,10 @@ pub(crate) fn note_one(p: usize, n: usize, m: usize) -> Option<usize>
 
 // The marker of this number, at m just before: where it was noted and stands at p, it goes to its
 // distance from p; else it is carried.
-pub(crate) fn put_one_back(p: usize, notes: Notes, number: usize, m: usize) -> usize
+pub(crate) fn put_one_back(p: usize, notes: &Notes, number: usize, m: usize) -> usize
     requires number { number < 16 }
-    requires fits { m + notes.count < 2 ^ 64 }
-    ensures { result ≡ put_back p notes.count number (slice_index_or notes.distances number None) m }
+    requires fits { m + notes.now.count < 2 ^ 64 }
+    ensures { result ≡ put_back p notes.now.count number (slice_index_or notes.now.distances number None) m }
 {
     match notes.distances[number] {
         Some(distance) if m == p => p + distance,

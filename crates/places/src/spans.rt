@@ -8,7 +8,7 @@ use crate::record::Span;
 // At most eight spans. The slots are an array by value, and no vector of a library, since a record of
 // places is a plain value that is copied, with no heap. Clauses read the spans by `spans_of`, and not by
 // a model of the type: a type whose model forgets the free slots cannot be copied.
-#[derive(Clone, Copy)]
+#[derive(Clone, Copy, PartialEq, Eq, Debug)]
 pub struct Spans {
     // the spans are the first `count` of these
     slots: [Span; MAX_SPANS],
@@ -52,16 +52,17 @@ impl Spans {
         self.count += 1;
     }
 
-    // Each span as the edit leaves it.
-    pub(crate) fn after(self, edit: Edit) -> Spans
-        requires { All (λ span. (span.start ≤ span.end) × (span.end + growth edit < 2 ^ 64)) (spans_of self) }
-        ensures { spans_of result ≡ map (span_after edit) (spans_of self) }
+    // Leaves each span as the edit carries it, in its slot: at every edit a record of places is carried, and
+    // to make the slots anew takes a third as long again. By number, since over the slots in use, by
+    // `iter_mut`, the proof did not close.
+    pub(crate) fn carry(&mut self, edit: Edit)
+        requires { All (λ span. (span.start ≤ span.end) × (span.end + growth edit < 2 ^ 64)) (spans_of self.old) }
+        ensures { spans_of self.new ≡ map (span_after edit) (spans_of self.old) }
     {
-        let mut after = Spans::new();
-        for span in self.as_slice() {
-            after.push(span.after(edit));
+        let count = self.count;
+        for i in 0..count {
+            self.slots[i] = self.slots[i].after(edit);
         }
-        after
     }
 
     // Whether the edit meets one of the spans.

@@ -106,6 +106,7 @@ fn refused_calls(rt: HostRuntime) -> Result<(), Fail> {
     }
     let lifted: Fault = store::faults::Refusal::Area.at(2).lift();
     assert_eq!(rt; lifted, Refusal::Area.at(2));
+    assert_eq!(rt; Fault::from(store::faults::Refusal::Area.at(2)), lifted);
     Ok(())
 }
 

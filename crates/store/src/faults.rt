@@ -51,6 +51,18 @@ impl<R> Fault<R> {
     }
 }
 
+// The refusals of a layer above the stores, which have a store's among them.
+pub trait OverStore: Refuses + From<Refusal> {}
+
+// A store's fault becomes one of a layer above by `?` too.
+impl<R: OverStore> From<Fault<Refusal>> for Fault<R> {
+    ghost from_gives = { λ f r. R.from_gives f.refusal r.refusal × (r.place ≡ f.place) };
+
+    fn from(fault: Fault<Refusal>) -> Fault<R> {
+        fault.lift()
+    }
+}
+
 // As "4 (place), layer 1, place 99".
 impl<R: Refuses> fmt::Display for Fault<R> {
     ghost output = { λ f. Some (shown_fault R.number R.layer R.name f) };

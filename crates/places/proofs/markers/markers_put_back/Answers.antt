@@ -7,4 +7,4 @@ pub returns : goal.returns
 unfolding markers_put_back
 returns c =
     let notes = c.args.notes in
-    fill_by_all (λ i. put_back c.args.p notes.count i (get_or notes.distances i None) (get_or c.args.markers i 0)) c.each_moved.result 16 0 (omega arith) (λ k h. let e = c.each_moved.ensures k h in search rules)
+    fill_by_all (λ i. put_back c.args.p notes.count i (get_or notes.distances i None) (get_or c.args.markers i 0)) c.of_each.result 16 0 (omega arith) (λ k h. let e = c.of_each.ensures k 0 h in search rules)

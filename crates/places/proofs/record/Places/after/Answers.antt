@@ -11,6 +11,6 @@ invariant_of-self c =
     let fit : fits e (model r) ≡ true = cc in
     record {
       marked = marked_after e (model r) _ _ c.len_after.ensures c.markers_after-self.ensures fit r.marked;
-      spanned = spanned_after e (model r) _ _ c.len_after.ensures c.after-self.ensures fit r.spanned;
+      spanned = spanned_after e (model r) _ _ c.len_after.ensures c.carry.ensures fit r.spanned;
       window = window_after e (model r) _ c.len_after.ensures r.window fit;
     }

@@ -14,6 +14,6 @@ invariant_of-self c =
     let fit : fits e (model r) ≡ true = cc in
     record {
       marked = marked_back c.args.p notes.count notes.distances (model r) _ _ c.len_after.ensures c.markers_put_back-self.ensures fit notes.near r.marked;
-      spanned = spanned_after e (model r) _ _ c.len_after.ensures c.after-self.ensures fit r.spanned;
+      spanned = spanned_after e (model r) _ _ c.len_after.ensures c.carry.ensures fit r.spanned;
       window = window_after e (model r) _ c.len_after.ensures r.window fit;
     }
